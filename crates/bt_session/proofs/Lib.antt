@@ -12,4 +12,4 @@ pub mod Whole
 pub mod OwnSteps
 pub mod Turns
 pub mod Sessions
-pub mod Unflushed
+pub mod Meetings

@@ -12,6 +12,7 @@ use Rattle.bt_machine.specs.declared.event.Answer.{Answer}
 use Rattle.bt_machine.specs.Law.{sent_by}
 use Rattle.bt_machine.specs.State.{EngineState, EngineView}
 use Rattle.bt_machine.specs.View.{StepsTo}
+use Rattle.bt_session.specs.declared.flushing.Flushing.{Flushing}
 use Rattle.bt_session.specs.declared.end.SessionEnd.{SessionEnd}
 use Rattle.bt_session.specs.declared.end.SessionEnd.TheVariants.{Closed, WriteFault, Memory}
 use Rattle.bt_session.specs.Frames.{frames_to, AreWritten}
@@ -31,14 +32,14 @@ pub not_ended : (until : Bool) (s : EngineState) (close : Option Why) → EndsAf
 not_ended until s None not_done = (refl, not_done)
 not_ended until s (Some why) e = absurd cc
 
-module _ {D : Type 0} (conduct : Conduct D) (dig : List ℕ → List ℕ) (key : PeerKey) (until : Bool) (every : ℕ) where
+module _ {D : Type 0} (conduct : Conduct D) (dig : List ℕ → List ℕ) (key : PeerKey) (until : Bool) (flushing : Flushing) where
   -- an answer is written, or it is not
   pub sent : (given taken : ℕ) (first : Place D) (old new : EngineView D) (remaining before after : Option (List ℕ)) (last : Answer) (event : Event) (answer : Answer)
-      (result : Result (Unit {0}) SessionEnd) → taken ≤ given → HasRun conduct dig key until every AllWritten first taken last (place old remaining before)
-      → Follows key until every taken old.state last event → StepsTo conduct dig old event answer new → IsQuiet event → HasOutput answer
+      (result : Result (Unit {0}) SessionEnd) → taken ≤ given → HasRun conduct dig key until flushing AllWritten first taken last (place old remaining before)
+      → Follows key until flushing taken old.state last event → StepsTo conduct dig old event answer new → IsQuiet event → HasOutput answer
       → AreWritten before after (frames_to key (sent_by answer)) result
-      → MatchResult result (λ done. HasRun conduct dig key until every AllWritten first taken answer (place new remaining after))
-      (λ end. HasEnded conduct dig key until every given first (Ok end) (place new remaining after))
+      → MatchResult result (λ done. HasRun conduct dig key until flushing AllWritten first taken answer (place new remaining after))
+      (λ end. HasEnded conduct dig key until flushing given first (Ok end) (place new remaining after))
   sent given taken first old new remaining before after last event answer result few h follows step quiet output written = by result written
     where
       counted : taken + count_by is_turn (event ∷ []) ≡ taken
@@ -48,18 +49,18 @@ module _ {D : Type 0} (conduct : Conduct D) (dig : List ℕ → List ℕ) (key :
       read = subst (Consumes remaining remaining) (sym quiet.no_bytes) (Consumes-nil remaining)
 
       by : (result : Result (Unit {0}) SessionEnd) → AreWritten before after (frames_to key (sent_by answer)) result
-          → MatchResult result (λ done. HasRun conduct dig key until every AllWritten first taken answer (place new remaining after))
-          (λ end. HasEnded conduct dig key until every given first (Ok end) (place new remaining after))
+          → MatchResult result (λ done. HasRun conduct dig key until flushing AllWritten first taken answer (place new remaining after))
+          (λ end. HasEnded conduct dig key until flushing given first (Ok end) (place new remaining after))
       by (Ok done) w =
-          went_on conduct dig key until every first AllWritten taken taken last answer event (place old remaining before) (place new remaining after) h follows
-          step counted read (written_all conduct dig key until every first taken last answer (place old remaining before) after h w)
+          went_on conduct dig key until flushing first AllWritten taken taken last answer event (place old remaining before) (place new remaining after) h follows
+          step counted read (written_all conduct dig key until flushing first taken last answer (place old remaining before) after h w)
       by (Err Memory) w = record {
         taken = taken;
         few = few;
         last = answer;
         ran =
-            went_on conduct dig key until every first (WrittenBefore (frames_to key (sent_by answer))) taken taken last answer event (place old remaining before) (place new remaining after) h
-            follows step counted read (written_before conduct dig key until every first taken last answer (place old remaining before) after h w.0);
+            went_on conduct dig key until flushing first (WrittenBefore (frames_to key (sent_by answer))) taken taken last answer event (place old remaining before) (place new remaining after) h
+            follows step counted read (written_before conduct dig key until flushing first taken last answer (place old remaining before) after h w.0);
         comes = inl (output, w.1);
       }
       by (Err WriteFault) w = record {
@@ -67,7 +68,7 @@ module _ {D : Type 0} (conduct : Conduct D) (dig : List ℕ → List ℕ) (key :
         few = few;
         last = answer;
         ran =
-            went_on conduct dig key until every first IsUnknown taken taken last answer event (place old remaining before) (place new remaining after) h
+            went_on conduct dig key until flushing first IsUnknown taken taken last answer event (place old remaining before) (place new remaining after) h
             follows step counted read tt;
         comes = output;
       }
@@ -75,29 +76,29 @@ module _ {D : Type 0} (conduct : Conduct D) (dig : List ℕ → List ℕ) (key :
 
   -- memory was refused in an event
   pub refused : (given taken more : ℕ) (first : Place D) (old new : EngineView D) (remaining left contents : Option (List ℕ)) (last : Answer) (event : Event)
-      (answer : Answer) → more ≤ given → HasRun conduct dig key until every AllWritten first taken last (place old remaining contents)
-      → Follows key until every taken old.state last event → StepsTo conduct dig old event answer new → taken + count_by is_turn (event ∷ []) ≡ more
-      → Consumes remaining left (fed_by event) → IsRefused answer → HasEnded conduct dig key until every given first (Ok Memory) (place new left contents)
+      (answer : Answer) → more ≤ given → HasRun conduct dig key until flushing AllWritten first taken last (place old remaining contents)
+      → Follows key until flushing taken old.state last event → StepsTo conduct dig old event answer new → taken + count_by is_turn (event ∷ []) ≡ more
+      → Consumes remaining left (fed_by event) → IsRefused answer → HasEnded conduct dig key until flushing given first (Ok Memory) (place new left contents)
   refused given taken more first old new remaining left contents last event answer few h follows step counted read is = record {
     taken = more;
     few = few;
     last = answer;
     ran =
-        went_on conduct dig key until every first (WrittenBefore (frames_to key (sent_by answer))) taken more last answer event (place old remaining contents) (place new left contents) h follows
+        went_on conduct dig key until flushing first (WrittenBefore (frames_to key (sent_by answer))) taken more last answer event (place old remaining contents) (place new left contents) h follows
         step counted read
-        (written_before conduct dig key until every first taken last answer (place old remaining contents) contents h (Keeps-refl contents));
+        (written_before conduct dig key until flushing first taken last answer (place old remaining contents) contents h (Keeps-refl contents));
     comes = inr is;
   }
 
   -- after an output the session ended
   pub ended_after : (given taken : ℕ) (first now : Place D) (last : Answer) (close : Option Why) (end : SessionEnd) → taken ≤ given
-      → HasRun conduct dig key until every AllWritten first taken last now → ((why : Why) → close ≡ Some why → ClosesPeer why last)
+      → HasRun conduct dig key until flushing AllWritten first taken last now → ((why : Why) → close ≡ Some why → ClosesPeer why last)
       → (close ≡ None → MayBeDone last) → EndsAfter until now.engine.state close (Some end)
-      → HasEnded conduct dig key until every given first (Ok end) now
+      → HasEnded conduct dig key until flushing given first (Ok end) now
   ended_after given taken first now last (Some why) end few h closes may e =
       let is : Closed why ≡ end = cc in
-      subst (λ (x : SessionEnd). HasEnded conduct dig key until every given first (Ok x) now) is
+      subst (λ (x : SessionEnd). HasEnded conduct dig key until flushing given first (Ok x) now) is
       (record { taken = taken; few = few; last = last; ran = h; comes = closes why refl })
   ended_after given taken first now last None end few h closes may (is, done) =
-      subst (λ (x : SessionEnd). HasEnded conduct dig key until every given first (Ok x) now) (sym is)
+      subst (λ (x : SessionEnd). HasEnded conduct dig key until flushing given first (Ok x) now) (sym is)
       (record { taken = taken; few = few; last = last; ran = h; comes = (may refl, done) })

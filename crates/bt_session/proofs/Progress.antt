@@ -17,18 +17,19 @@ use Rattle.bt_machine.specs.Law.{sent_by}
 use Rattle.bt_machine.specs.Output.{Output}
 use Rattle.bt_machine.specs.State.{EngineState, EngineView}
 use Rattle.bt_machine.specs.View.{StepsTo}
+use Rattle.bt_session.specs.declared.flushing.Flushing.{Flushing}
 use Rattle.bt_session.specs.Frames.{spelling, spellings, frames_to}
 use Rattle.bt_session.specs.Session.{begins, goes_on, Follows, FollowsTurn, FeedsRead, is_turn}
 use Rattle.bt_session.specs.Progress.{HowMuch, HasRun, Place, frames_in, fed_by, AllWritten, WrittenBefore}
 use Rattle.bt_session.specs.Ends.{IsBetweenTurns}
 
 -- a read follows between turns
-pub read_follows : (key : PeerKey) (until : Bool) (every taken : ℕ) (s : EngineState) (last : Answer) (event : Event)
-    → IsBetweenTurns until every taken s last → FeedsRead key event → Follows key until every taken s last event
-read_follows key until every taken s (Connected (Ok joined)) event between read = (between, read)
-read_follows key until every taken s (Rechoked (Ok out)) event between read = subst (λ due. FollowsTurn due key event) (sym between) read
-read_follows key until every taken s (Flushed (Ok done)) event between read = read
-read_follows key until every taken s _ event between read = absurd between
+pub read_follows : (key : PeerKey) (until : Bool) (flushing : Flushing) (taken : ℕ) (s : EngineState) (last : Answer) (event : Event)
+    → IsBetweenTurns until flushing taken s last → FeedsRead key event → Follows key until flushing taken s last event
+read_follows key until flushing taken s (Connected (Ok joined)) event between read = (between, read)
+read_follows key until flushing taken s (Rechoked (Ok out)) event between read = subst (λ due. FollowsTurn due key event) (sym between) read
+read_follows key until flushing taken s (Flushed (Ok done)) event between read = read
+read_follows key until flushing taken s _ event between read = absurd between
 
 frames_more : (key : PeerKey) (answers : List Answer) (answer : Answer) → frames_in key (answers ++ answer ∷ []) ≡ frames_in key answers ++ frames_to key (sent_by answer)
 frames_more key answers answer =
@@ -45,11 +46,11 @@ count_more events event = sum_by-append (λ x. cond (is_turn x) 1 0) events (eve
 pub nothing_written : (old new : Option (List ℕ)) (frames : List Frame) → Keeps old new → WrittenBefore frames old new frames
 nothing_written old new frames kept = ([], refl, Appends-kept old old new [] (Appends-nil old) kept)
 
-module _ {D : Type 0} (conduct : Conduct D) (dig : List ℕ → List ℕ) (key : PeerKey) (until : Bool) (every : ℕ) (first : Place D) where
+module _ {D : Type 0} (conduct : Conduct D) (dig : List ℕ → List ℕ) (key : PeerKey) (until : Bool) (flushing : Flushing) (first : Place D) where
   -- it begins
   pub begun : (how_much : HowMuch) (out : Output) (answer : Answer) (engine : EngineView D) (contents : Option (List ℕ)) → answer ≡ Connected (Ok (key, out))
       → StepsTo conduct dig first.engine Connect answer engine → how_much first.contents contents (frames_to key (sent_by answer))
-      → HasRun conduct dig key until every how_much first 0 answer (record { engine = engine; remaining = first.remaining; contents = contents })
+      → HasRun conduct dig key until flushing how_much first 0 answer (record { engine = engine; remaining = first.remaining; contents = contents })
   begun how_much out answer engine contents is step written = record {
     events = Connect ∷ [];
     answers = answer ∷ [];
@@ -61,16 +62,16 @@ module _ {D : Type 0} (conduct : Conduct D) (dig : List ℕ → List ℕ) (key :
 
   -- it goes on
   pub went_on : (how_much : HowMuch) (turns more : ℕ) (last answer : Answer) (event : Event) (mid now : Place D)
-      (h : HasRun conduct dig key until every AllWritten first turns last mid)
-      → Follows key until every turns mid.engine.state last event → StepsTo conduct dig mid.engine event answer now.engine
+      (h : HasRun conduct dig key until flushing AllWritten first turns last mid)
+      → Follows key until flushing turns mid.engine.state last event → StepsTo conduct dig mid.engine event answer now.engine
       → turns + count_by is_turn (event ∷ []) ≡ more → Consumes mid.remaining now.remaining (fed_by event)
       → how_much first.contents now.contents (frames_in key h.answers ++ frames_to key (sent_by answer))
-      → HasRun conduct dig key until every how_much first more answer now
+      → HasRun conduct dig key until flushing how_much first more answer now
   went_on how_much turns more last answer event mid now h follows step counted read written = record {
     events = h.events ++ event ∷ [];
     answers = h.answers ++ answer ∷ [];
     session = goes_on h.events h.answers last answer event mid.engine now.engine h.session
-        (subst (λ n. Follows key until every n mid.engine.state last event) (sym h.count) follows) step;
+        (subst (λ n. Follows key until flushing n mid.engine.state last event) (sym h.count) follows) step;
     count = count_more h.events event ∙ ap (λ n. n + count_by is_turn (event ∷ [])) h.count ∙ counted;
     read = subst (Consumes first.remaining now.remaining) (sym (fed_more h.events event))
         (Consumes-trans first.remaining mid.remaining now.remaining _ _ h.read read);
@@ -79,7 +80,7 @@ module _ {D : Type 0} (conduct : Conduct D) (dig : List ℕ → List ℕ) (key :
 
   -- what an answer sends to the peer is written
   pub written_all : (turns : ℕ) (last answer : Answer) (mid : Place D) (contents : Option (List ℕ))
-      (h : HasRun conduct dig key until every AllWritten first turns last mid) → Appends mid.contents contents (spellings (frames_to key (sent_by answer)))
+      (h : HasRun conduct dig key until flushing AllWritten first turns last mid) → Appends mid.contents contents (spellings (frames_to key (sent_by answer)))
       → AllWritten first.contents contents (frames_in key h.answers ++ frames_to key (sent_by answer))
   written_all turns last answer mid contents h written =
       subst (Appends first.contents contents) (sym (flat_map-append spelling (frames_in key h.answers) (frames_to key (sent_by answer))))
@@ -87,15 +88,15 @@ module _ {D : Type 0} (conduct : Conduct D) (dig : List ℕ → List ℕ) (key :
 
   -- or nothing of it
   pub written_before : (turns : ℕ) (last answer : Answer) (mid : Place D) (contents : Option (List ℕ))
-      (h : HasRun conduct dig key until every AllWritten first turns last mid) → Keeps mid.contents contents
+      (h : HasRun conduct dig key until flushing AllWritten first turns last mid) → Keeps mid.contents contents
       → WrittenBefore (frames_to key (sent_by answer)) first.contents contents (frames_in key h.answers ++ frames_to key (sent_by answer))
   written_before turns last answer mid contents h kept =
       (frames_in key h.answers, refl, Appends-kept first.contents mid.contents contents _ h.written kept)
 
   -- a read that gave nothing, or failed
   pub read_none : (turns : ℕ) (last : Answer) (mid : Place D) (remaining : Option (List ℕ))
-      → HasRun conduct dig key until every AllWritten first turns last mid → Keeps mid.remaining remaining
-      → HasRun conduct dig key until every AllWritten first turns last (record mid { remaining = remaining })
+      → HasRun conduct dig key until flushing AllWritten first turns last mid → Keeps mid.remaining remaining
+      → HasRun conduct dig key until flushing AllWritten first turns last (record mid { remaining = remaining })
   read_none turns last mid remaining h kept = record {
     events = h.events;
     answers = h.answers;

@@ -15,7 +15,9 @@ use Rattle.bt_machine.specs.State.{EngineState, EngineView}
 use Rattle.bt_machine.specs.View.{StepsTo}
 use Rattle.bt_session.specs.declared.end.SessionEnd.{SessionEnd}
 use Rattle.bt_session.specs.declared.end.SessionEnd.TheVariants.{Complete, Ended, Closed, TurnsSpent, ReadFault, WriteFault, Memory}
-use Rattle.bt_session.specs.Session.{IsDone, is_flush_due}
+use Rattle.bt_session.specs.declared.flushing.Flushing.{Flushing}
+use Rattle.bt_session.specs.Flushing.{is_flush_due}
+use Rattle.bt_session.specs.Session.{IsDone}
 use Rattle.bt_session.specs.Frames.{frames_to}
 use Rattle.bt_session.specs.Progress.{Place, HowMuch, AllWritten, WrittenBefore, IsUnknown, HasRun}
 
@@ -28,11 +30,11 @@ MayBeDone (Stepped (Ok (Some out))) = out.close ≡ None
 MayBeDone _ = ⊥
 
 -- after so many turns the next thing is a read
-abbrev pub IsBetweenTurns : (until_complete : Bool) → (every taken : ℕ) → EngineState → Answer → Type 0
-IsBetweenTurns until every taken s (Connected (Ok _)) = ¬ IsDone until s
-IsBetweenTurns until every taken s (Rechoked (Ok _)) = is_flush_due every taken ≡ false
-IsBetweenTurns until every taken s (Flushed (Ok _)) = Unit {0}
-IsBetweenTurns until every taken s _ = ⊥
+abbrev pub IsBetweenTurns : (until_complete : Bool) → Flushing → (taken : ℕ) → EngineState → Answer → Type 0
+IsBetweenTurns until flushing taken s (Connected (Ok _)) = ¬ IsDone until s
+IsBetweenTurns until flushing taken s (Rechoked (Ok _)) = is_flush_due flushing taken ≡ false
+IsBetweenTurns until flushing taken s (Flushed (Ok _)) = Unit {0}
+IsBetweenTurns until flushing taken s _ = ⊥
 
 abbrev pub ClosesPeer : Why → Answer → Type 0
 ClosesPeer why (Stepped (Ok (Some out))) = out.close ≡ Some why
@@ -63,46 +65,40 @@ written_at key last _ = AllWritten
 
 -- A session that is given so many turns comes to this end after so many turns, with this last answer. In
 -- place of an end of its own it may come to a flush that is due and refused, which is its last event.
-abbrev pub Comes : PeerKey → Result SessionEnd FlushError → (until_complete : Bool) → (every given taken : ℕ)
-    → (last : Answer) → EngineState → (remaining : Option (List ℕ)) → Type 0
-Comes key (Ok Complete) until every given taken last s remaining = MayBeDone last × IsDone until s
-Comes key (Ok Ended) until every given taken last s remaining =
-    IsBetweenTurns until every taken s last × (taken < given) × IsAtEnd remaining
-Comes key (Ok (Closed why)) until every given taken last s remaining = ClosesPeer why last
-Comes key (Ok TurnsSpent) until every given taken last s remaining =
-    IsBetweenTurns until every taken s last × (taken ≡ given)
-Comes key (Ok ReadFault) until every given taken last s remaining =
-    IsBetweenTurns until every taken s last × (taken < given)
-Comes key (Ok WriteFault) until every given taken last s remaining = HasOutput last
-Comes key (Ok Memory) until every given taken last s remaining =
+abbrev pub Comes : PeerKey → Result SessionEnd FlushError → (until_complete : Bool) → Flushing
+    → (given taken : ℕ) → (last : Answer) → EngineState → (remaining : Option (List ℕ)) → Type 0
+Comes key (Ok Complete) until flushing given taken last s remaining = MayBeDone last × IsDone until s
+Comes key (Ok Ended) until flushing given taken last s remaining =
+    IsBetweenTurns until flushing taken s last × (taken < given) × IsAtEnd remaining
+Comes key (Ok (Closed why)) until flushing given taken last s remaining = ClosesPeer why last
+Comes key (Ok TurnsSpent) until flushing given taken last s remaining =
+    IsBetweenTurns until flushing taken s last × (taken ≡ given)
+Comes key (Ok ReadFault) until flushing given taken last s remaining =
+    IsBetweenTurns until flushing taken s last × (taken < given)
+Comes key (Ok WriteFault) until flushing given taken last s remaining = HasOutput last
+Comes key (Ok Memory) until flushing given taken last s remaining =
     (HasOutput last × (frames_to key (sent_by last) ≢ [])) ⊎ IsRefused last
-Comes key (Err error) until every given taken last s remaining =
-    (is_flush_due every taken ≡ true) × (last ≡ Flushed (Err error))
+Comes key (Err error) until flushing given taken last s remaining =
+    (is_flush_due flushing taken ≡ true) × (last ≡ Flushed (Err error))
 
 -- From the first place a session has come to this end, where it is now. The peer may be there still.
 pub record HasEnded {D : Type 0} (conduct : Conduct D)
-    (dig : List ℕ → List ℕ) (key : PeerKey) (until_complete : Bool) (every given : ℕ) (first : Place D)
-    (end : Result SessionEnd FlushError) (now : Place D) : Type 0 where
+    (dig : List ℕ → List ℕ) (key : PeerKey) (until_complete : Bool) (flushing : Flushing) (given : ℕ)
+    (first : Place D) (end : Result SessionEnd FlushError) (now : Place D) : Type 0 where
   pub taken : ℕ
   pub few : taken ≤ given
   pub last : Answer
-  pub ran : HasRun conduct dig key until_complete every (written_at key last end) first taken last now
-  pub comes : Comes key end until_complete every given taken last now.engine.state now.remaining
+  pub ran : HasRun conduct dig key until_complete flushing (written_at key last end) first taken last now
+  pub comes : Comes key end until_complete flushing given taken last now.engine.state now.remaining
 
--- A whole session, in which the engine is flushed after each `every`-th turn, or never where that is 0: it
--- has come to its end, and its peer is removed.
-pub record IsSessionWithFlushes {D : Type 0} (conduct : Conduct D)
-    (dig : List ℕ → List ℕ) (until_complete : Bool) (every given : ℕ) (first : Place D)
+-- A whole session, of at most so many turns: it has come to its end, and its peer is removed. Of one that is flushed
+-- the end may be that a flush was refused.
+pub record IsSession {D : Type 0} (conduct : Conduct D)
+    (dig : List ℕ → List ℕ) (until_complete : Bool) (flushing : Flushing) (given : ℕ) (first : Place D)
     (end : Result SessionEnd FlushError) (last : Place D) : Type 0 where
   pub key : PeerKey
   pub engine : EngineView D
-  pub ended : HasEnded conduct dig key until_complete every given first end
+  pub ended : HasEnded conduct dig key until_complete flushing given first end
       (record last { engine = engine })
   pub removed : Result (Unit {0}) EngineError
   pub removal : StepsTo conduct dig engine (Lost key) (LostAnswer removed) last.engine
-
--- a whole session without a flush
-abbrev pub IsSession : {D : Type 0} → Conduct D → (List ℕ → List ℕ)
-    → (until_complete : Bool) → (given : ℕ) → (first : Place D) → SessionEnd → (last : Place D) → Type 0
-IsSession conduct dig until given first end last =
-    IsSessionWithFlushes conduct dig until 0 given first (Ok end) last

@@ -1,4 +1,5 @@
--- What is known of the reader and the writer of a session where it ends.
+-- What is known of the reader and the writer of a session where it ends. `has_failed` and `is_flushed` of a concrete
+-- type are true (`WatchedReader`, `WatchedWriter`): all this is said of code over any reader and writer.
 use Rattle.std.specs.Prelude.{◌≡◌, ◌≢◌, Result, Ok}
 use Rattle.bt_machine.specs.declared.error.FlushError.{FlushError}
 use Rattle.bt_session.specs.declared.end.SessionEnd.{SessionEnd}

@@ -1,3 +1,4 @@
+pub mod Flushing
 pub mod Frames
 pub mod Failures
 pub mod Session

@@ -12,30 +12,31 @@ use Rattle.bt_machine.specs.declared.error.FlushError.{FlushError}
 use Rattle.bt_machine.specs.State.{EngineState, EngineView}
 use Rattle.bt_session.specs.declared.end.SessionEnd.{SessionEnd}
 use Rattle.bt_session.specs.declared.end.SessionEnd.TheVariants.{Complete, Closed}
+use Rattle.bt_session.specs.declared.flushing.Flushing.{Flushing}
 use Rattle.bt_session.specs.Session.{Follows, IsDone}
 use Rattle.bt_session.specs.Progress.{Place, place, AllWritten, HasRun}
 use Rattle.bt_session.specs.Ends.{IsBetweenTurns, HasEnded}
 
 -- what may come next after so many turns, by the engine's state and the last answer
 abbrev pub Outlook : Type 1
-Outlook = (every taken : ℕ) → EngineState → Answer → Type 0
+Outlook = Flushing → (taken : ℕ) → EngineState → Answer → Type 0
 
 -- this event is the next
 abbrev pub Awaits : PeerKey → (until_complete : Bool) → Event → Outlook
-Awaits key until event every taken s last = Follows key until every taken s last event
+Awaits key until event flushing taken s last = Follows key until flushing taken s last event
 
 -- a turn is over: the peers to serve are chosen
-abbrev pub IsTurnOver : (every taken : ℕ) → EngineState → Answer → Type 0
-IsTurnOver every taken s (Rechoked (Ok _)) = Unit {0}
-IsTurnOver every taken s _ = ⊥
+abbrev pub IsTurnOver : Flushing → (taken : ℕ) → EngineState → Answer → Type 0
+IsTurnOver flushing taken s (Rechoked (Ok _)) = Unit {0}
+IsTurnOver flushing taken s _ = ⊥
 
 -- A session has come here in so many turns, with all written that was sent, and goes on so.
 pub record GoesOn {D : Type 0} (conduct : Conduct D)
-    (dig : List ℕ → List ℕ) (key : PeerKey) (until_complete : Bool) (every : ℕ) (outlook : Outlook)
+    (dig : List ℕ → List ℕ) (key : PeerKey) (until_complete : Bool) (flushing : Flushing) (outlook : Outlook)
     (first : Place D) (taken : ℕ) (now : Place D) : Type 0 where
   pub last : Answer
-  pub ran : HasRun conduct dig key until_complete every AllWritten first taken last now
-  pub next : outlook every taken now.engine.state last
+  pub ran : HasRun conduct dig key until_complete flushing AllWritten first taken last now
+  pub next : outlook flushing taken now.engine.state last
 
 -- A part of a session, however often that is flushed: it takes it from one place to another, where it goes
 -- on, or to its end.
@@ -43,25 +44,25 @@ abbrev pub IsPart : {D A : Type 0} → Conduct D → (List ℕ → List ℕ)
     → PeerKey → (until_complete : Bool) → Outlook → (took : ℕ → ℕ) → Place D → Result A SessionEnd
     → (A → Outlook) → Place D → Type 0
 IsPart {D} conduct dig key until before took old result after new =
-    (every given taken : ℕ) (first : Place D)
-    → GoesOn conduct dig key until every before first taken old → took taken ≤ given
+    (flushing : Flushing) (given taken : ℕ) (first : Place D)
+    → GoesOn conduct dig key until flushing before first taken old → took taken ≤ given
     → MatchResult result
-    (λ done. GoesOn conduct dig key until every (after done) first (took taken) new)
-    (λ end. HasEnded conduct dig key until every given first (Ok end) new)
+    (λ done. GoesOn conduct dig key until flushing (after done) first (took taken) new)
+    (λ end. HasEnded conduct dig key until flushing given first (Ok end) new)
 
 -- What stands between two turns, the first of them the `taken`-th: a flush where one is due, and the session
 -- goes on, or the flush was refused and was its end.
 abbrev pub IsPause : {D : Type 0} → Conduct D → (List ℕ → List ℕ) → PeerKey
-    → (until_complete : Bool) → (every taken : ℕ) → EngineView D → Result (Unit {0}) FlushError
+    → (until_complete : Bool) → Flushing → (taken : ℕ) → EngineView D → Result (Unit {0}) FlushError
     → EngineView D → Type 0
-IsPause {D} conduct dig key until every taken old result new =
+IsPause {D} conduct dig key until flushing taken old result new =
     (given : ℕ) (first : Place D) (remaining contents : Option (List ℕ))
-    → GoesOn conduct dig key until every IsTurnOver first taken (place old remaining contents)
+    → GoesOn conduct dig key until flushing IsTurnOver first taken (place old remaining contents)
     → taken ≤ given
     → MatchResult result
-    (λ done. GoesOn conduct dig key until every (IsBetweenTurns until) first taken
+    (λ done. GoesOn conduct dig key until flushing (IsBetweenTurns until) first taken
     (place new remaining contents))
-    (λ error. HasEnded conduct dig key until every given first (Err error)
+    (λ error. HasEnded conduct dig key until flushing given first (Err error)
     (place new remaining contents))
 
 -- ---- its parts

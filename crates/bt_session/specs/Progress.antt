@@ -10,6 +10,7 @@ use Rattle.bt_machine.specs.declared.event.Event.TheVariants.{Feed}
 use Rattle.bt_machine.specs.declared.event.Answer.{Answer}
 use Rattle.bt_machine.specs.Law.{sent_by}
 use Rattle.bt_machine.specs.State.{EngineView}
+use Rattle.bt_session.specs.declared.flushing.Flushing.{Flushing}
 use Rattle.bt_session.specs.Frames.{spellings, frames_to}
 use Rattle.bt_session.specs.Session.{Session, is_turn}
 
@@ -50,11 +51,11 @@ IsUnknown old new frames = Unit {0}
 -- was fed, in their order, just the bytes that the reader gave; and of what it sent to its peer so much is
 -- written.
 pub record HasRun {D : Type 0} (conduct : Conduct D)
-    (dig : List ℕ → List ℕ) (key : PeerKey) (until_complete : Bool) (every : ℕ) (how_much : HowMuch)
+    (dig : List ℕ → List ℕ) (key : PeerKey) (until_complete : Bool) (flushing : Flushing) (how_much : HowMuch)
     (first : Place D) (turns : ℕ) (last : Answer) (now : Place D) : Type 0 where
   pub events : List Event
   pub answers : List Answer
-  pub session : Session conduct dig key until_complete every first.engine events answers last
+  pub session : Session conduct dig key until_complete flushing first.engine events answers last
       now.engine
   pub count : count_by is_turn events ≡ turns
   pub read : Consumes first.remaining now.remaining (flat_map fed_by events)

@@ -1,5 +1,5 @@
 -- What happens in a session with a peer: which event follows on which.
-use Rattle.std.specs.Prelude.{[], ◌≡◌, ℕ, ◌<◌, ◌≤◌, ◌%◌, ◌==◌, ◌&&◌, not, Bool, true, false, List, ◌∷◌, ◌++◌, length, Some, None, Ok}
+use Rattle.std.specs.Prelude.{[], ◌≡◌, ℕ, ◌<◌, ◌≤◌, Bool, true, false, List, ◌∷◌, ◌++◌, length, Some, None, Ok}
 use Rattle.std.specs.List.{count_by}
 use Rattle.bt_disk.specs.Conduct.{Conduct}
 use Rattle.bt_book.specs.declared.names.PeerKey.{PeerKey}
@@ -11,6 +11,8 @@ use Rattle.bt_machine.specs.Output.{Output}
 use Rattle.bt_machine.specs.Report.{all_complete}
 use Rattle.bt_machine.specs.State.{EngineState, EngineView}
 use Rattle.bt_machine.specs.View.{StepsTo, RunsTo}
+use Rattle.bt_session.specs.declared.flushing.Flushing.{Flushing}
+use Rattle.bt_session.specs.Flushing.{is_flush_due}
 
 -- ---- which event follows
 
@@ -32,10 +34,6 @@ abbrev pub is_turn : Event → Bool
 is_turn (Feed key bytes) = true
 is_turn _ = false
 
--- a flush is due after each `every`-th turn, and where that is 0 never
-abbrev pub is_flush_due : (every taken : ℕ) → Bool
-is_flush_due every taken = not (every == 0) && (taken % every == 0)
-
 -- after a turn the engine is flushed where that is due; where it isn't, bytes are fed
 abbrev pub FollowsTurn : (due : Bool) → PeerKey → Event → Type 0
 FollowsTurn true key event = event ≡ Flush
@@ -44,37 +42,37 @@ FollowsTurn false key event = FeedsRead key event
 -- The event that a session makes after so many turns, after an answer that left the engine so. After a
 -- greeting bytes are fed; then wire events are taken until none is there; then the peers to serve are chosen,
 -- and the turn is over. After a flush the next one begins.
-abbrev pub Follows : PeerKey → (until_complete : Bool) → (every taken : ℕ) → EngineState → Answer → Event
+abbrev pub Follows : PeerKey → (until_complete : Bool) → Flushing → (taken : ℕ) → EngineState → Answer → Event
     → Type 0
-Follows key until every taken s (Connected (Ok _)) event = ¬ IsDone until s × FeedsRead key event
-Follows key until every taken s (Fed (Ok _)) event = event ≡ Next key
-Follows key until every taken s (Stepped (Ok (Some out))) event =
+Follows key until flushing taken s (Connected (Ok _)) event = ¬ IsDone until s × FeedsRead key event
+Follows key until flushing taken s (Fed (Ok _)) event = event ≡ Next key
+Follows key until flushing taken s (Stepped (Ok (Some out))) event =
     (out.close ≡ None) × ¬ IsDone until s × (event ≡ Next key)
-Follows key until every taken s (Stepped (Ok None)) event = event ≡ Rechoke
-Follows key until every taken s (Rechoked (Ok _)) event = FollowsTurn (is_flush_due every taken) key event
-Follows key until every taken s (Flushed (Ok _)) event = FeedsRead key event
-Follows key until every taken s _ event = ⊥
+Follows key until flushing taken s (Stepped (Ok None)) event = event ≡ Rechoke
+Follows key until flushing taken s (Rechoked (Ok _)) event = FollowsTurn (is_flush_due flushing taken) key event
+Follows key until flushing taken s (Flushed (Ok _)) event = FeedsRead key event
+Follows key until flushing taken s _ event = ⊥
 
 -- A session begins as its peer is connected, and goes on event by event. `last` is the last answer.
 pub data Session {D : Type 0} (conduct : Conduct D)
-    (dig : List ℕ → List ℕ) (key : PeerKey) (until_complete : Bool) (every : ℕ) (first : EngineView D)
+    (dig : List ℕ → List ℕ) (key : PeerKey) (until_complete : Bool) (flushing : Flushing) (first : EngineView D)
     : List Event → List Answer → (last : Answer) → EngineView D → Type 0 where
   begins : (out : Output) (answer : Answer) (now : EngineView D) → answer ≡ Connected (Ok (key, out))
       → StepsTo conduct dig first Connect answer now
-      → Session conduct dig key until_complete every first (Connect ∷ []) (answer ∷ []) answer
+      → Session conduct dig key until_complete flushing first (Connect ∷ []) (answer ∷ []) answer
       now
   goes_on : (events : List Event) (answers : List Answer) (last answer : Answer) (event : Event)
       (mid now : EngineView D)
-      → Session conduct dig key until_complete every first events answers last mid
-      → Follows key until_complete every (count_by is_turn events) mid.state last event
+      → Session conduct dig key until_complete flushing first events answers last mid
+      → Follows key until_complete flushing (count_by is_turn events) mid.state last event
       → StepsTo conduct dig mid event answer now
-      → Session conduct dig key until_complete every first (events ++ event ∷ [])
+      → Session conduct dig key until_complete flushing first (events ++ event ∷ [])
       (answers ++ answer ∷ []) answer now
 
 -- Its events are a run of the engine.
 abbrev pub SessionsAreRuns : {D : Type 0} → Conduct D → (List ℕ → List ℕ)
     → Type 0
-SessionsAreRuns {D} conduct dig = (key : PeerKey) (until_complete : Bool) (every : ℕ)
+SessionsAreRuns {D} conduct dig = (key : PeerKey) (until_complete : Bool) (flushing : Flushing)
     (first : EngineView D) (events : List Event) (answers : List Answer) (last : Answer) (now : EngineView D)
-    → Session conduct dig key until_complete every first events answers last now
+    → Session conduct dig key until_complete flushing first events answers last now
     → RunsTo conduct dig first events answers now

@@ -22,7 +22,8 @@ pub(crate) fn write_frames<W: WatchedWriter>(
     buffer: &mut Vec<u8>,
 ) -> Result<(), SessionEnd>
     requires fit { AllFit send.now }
-    ensures written { AreWritten (W.contents writer.old) (W.contents writer.new) (frames_to key send.now)
+    ensures written { AreWritten (W.contents writer.old) (W.contents writer.new)
+        (frames_to key send.now)
         result }
     ensures write_fault { IfErr result (OnlyAfterFailure WriteFault (W.has_failed writer.new)) }
     ensures flushed { OnOk result (W.is_flushed writer.new) }

@@ -87,7 +87,8 @@ impl Incoming {
 /// made again. Errors: ReadFault, and none of the reader's bytes is lost.
 fn read_some<R: WatchedReader>(reader: &mut R, buffer: &mut [u8]) -> Result<usize, SessionEnd>
     requires some { 0 < length buffer.old }
-    ensures given { IfOk result (λ count. IsGiven (R.remaining reader.old) (R.remaining reader.new) count
+    ensures given { IfOk result (λ count. IsGiven (R.remaining reader.old)
+        (R.remaining reader.new) count
         buffer.new) }
     ensures kept { OnErr result (Keeps (R.remaining reader.old) (R.remaining reader.new)) }
     ensures fault { IfErr result (λ end. end ≡ ReadFault) }

@@ -3,9 +3,10 @@
 //! engine is complete.
 #![tactic(auto)]
 
+mod buffers;
 mod calls;
 mod end;
-mod flushes;
+mod flushing;
 mod frames;
 mod incoming;
 mod law;
@@ -13,16 +14,16 @@ mod link;
 mod peer;
 mod peer_end;
 mod peers;
-mod room;
 mod session;
 mod turn;
 mod watched;
 
 pub use bt_engine::Engine;
 pub use end::SessionEnd;
+pub use flushing::Flushing;
 pub use law::sessions_are_runs;
 pub use link::Link;
-pub use peer::{meet_peer, meet_peer_with_flushes};
+pub use peer::meet_peer;
 pub use peer_end::{PeerEnd, end_text};
 pub use peers::{run_peers, run_peers_with_flushes};
 pub use session::{run_session, run_session_with_flushes};

@@ -1,12 +1,15 @@
 //! One peer.
-ghost use Rattle.std.specs.Prelude.{[], ◌≡◌, ◌==◌, ◌⊎◌, not};
+ghost use Rattle.std.specs.Prelude.{[], ◌≡◌, ◌⊎◌, Ok};
 ghost use Rattle.bt_engine.specs.Leads.{LeadsTo, Stands};
 ghost use Rattle.bt_session.specs.declared.end.SessionEnd.TheVariants.{ReadFault, WriteFault};
+ghost use Rattle.bt_session.specs.declared.flushing.Flushing.TheVariants.{Never};
 ghost use Rattle.bt_session.specs.declared.peer_end.PeerEnd.TheVariants.{Session};
+ghost use Rattle.bt_session.specs.Flushing.{is_ever_flushed};
 ghost use Rattle.bt_session.specs.Failures.{OneFailed, OnlyAfterFailure};
-ghost use Rattle.bt_session.specs.Peer.{EndsAs, EndsAsWithFlushes, IsCutShort, IsFlushedWhere};
+ghost use Rattle.bt_session.specs.Peer.{EndsAs, IsCutShort, IsFlushedWhere};
 
 use crate::end::SessionEnd;
+use crate::flushing::Flushing;
 use crate::peer_end::PeerEnd;
 use crate::session::run_session_with_flushes;
 use crate::watched::{WatchedReader, WatchedWriter};
@@ -16,50 +19,23 @@ use bt_machine::FlushError;
 use bt_tree::NodeHash;
 use std::alloc::Global;
 
-/// Has a session with a peer that was reached, which gave what is read from it and written to it.
+/// Has a session with a peer that was reached, which gave what is read from it and written to it. Unless it is
+/// never flushed, the engine is flushed behind the session too. Gives what the last flush answered, Ok where there
+/// was none. One that is refused in the session ends it, and that is told as the end of one whose reader failed.
 pub fn meet_peer<D: Disk + Drop, H: NodeHash, R: WatchedReader + Drop, W: WatchedWriter + Drop>(
     alloc: Global,
     engine: &mut Engine<D, H>,
     reached: Option<(R, W)>,
     until_complete: bool,
     turns: u64,
-) -> PeerEnd
-    requires no_peer { engine.old.state.peers ≡ [] }
-    ensures ended { EndsAs D.conduct H.digest R.remaining W.contents until_complete
-        turns reached engine.old result engine.new }
-    ensures read_fault { OnlyAfterFailure (Session ReadFault) (OneFailed R.has_failed) result }
-    ensures write_fault { OnlyAfterFailure (Session WriteFault) (OneFailed W.has_failed) result }
-    ensures gone { engine.new.state.peers ≡ [] }
-    ensures run { LeadsTo D.conduct H.digest engine.old engine.new }
-    ensures stands { Stands D.conduct engine.old engine.new }
-{
-    // It is never flushed.
-    let (end, _) = meet_peer_with_flushes(alloc, engine, reached, until_complete, turns, 0);
-    end
-}
-
-/// The same as `meet_peer`, but that the engine is flushed in the session, after each turn whose number is a
-/// multiple of `flush_every`, and after the session; and never where that is 0. Gives what the last of these
-/// flushes answered, Ok where there was none. One that is refused ends the session, which is told then as one
-/// whose reader failed.
-pub fn meet_peer_with_flushes<
-    D: Disk + Drop,
-    H: NodeHash,
-    R: WatchedReader + Drop,
-    W: WatchedWriter + Drop,
->(
-    alloc: Global,
-    engine: &mut Engine<D, H>,
-    reached: Option<(R, W)>,
-    until_complete: bool,
-    turns: u64,
-    flush_every: u64,
+    flushing: Flushing,
 ) -> (PeerEnd, Result<(), FlushError>)
     requires no_peer { engine.old.state.peers ≡ [] }
-    ensures ended { EndsAsWithFlushes D.conduct H.digest R.remaining W.contents
-        until_complete flush_every turns reached engine.old result.0 result.1 engine.new }
+    ensures ended { EndsAs D.conduct H.digest R.remaining W.contents until_complete
+        flushing turns reached engine.old result.0 result.1 engine.new }
+    ensures unflushed { flushing ≡ Never → result.1 ≡ Ok tt }
     ensures read_fault { OnlyAfterFailure (Session ReadFault) (OneFailed R.has_failed
-        ⊎ IsCutShort D.conduct H.digest R.remaining W.contents until_complete flush_every turns
+        ⊎ IsCutShort D.conduct H.digest R.remaining W.contents until_complete flushing turns
         result.1 reached engine.old engine.new) result.0 }
     ensures write_fault { OnlyAfterFailure (Session WriteFault) (OneFailed W.has_failed) result.0 }
     ensures gone { engine.new.state.peers ≡ [] }
@@ -78,9 +54,9 @@ pub fn meet_peer_with_flushes<
         &mut writer,
         until_complete,
         turns,
-        flush_every,
+        flushing,
     ) {
-        Ok(Ok(end)) => (PeerEnd::Session(end), flush_behind(engine, flush_every)),
+        Ok(Ok(end)) => (PeerEnd::Session(end), flush_behind(engine, flushing)),
         Ok(Err(error)) => (PeerEnd::Session(SessionEnd::ReadFault), Err(error)),
         Err(error) => (PeerEnd::Refused(error), Ok(())),
     }
@@ -89,16 +65,17 @@ pub fn meet_peer_with_flushes<
 /// Flushes an engine after a session, unless it is never flushed.
 fn flush_behind<D: Disk + Drop, H: NodeHash>(
     engine: &mut Engine<D, H>,
-    flush_every: u64,
+    flushing: Flushing,
 ) -> Result<(), FlushError>
     requires no_peer { engine.old.state.peers ≡ [] }
-    ensures flushed { IsFlushedWhere D.conduct H.digest (not (flush_every == 0)) engine.old
+    ensures flushed { IsFlushedWhere D.conduct H.digest (is_ever_flushed flushing) engine.old
         result engine.new }
+    ensures unflushed { flushing ≡ Never → result ≡ Ok tt }
     ensures gone { engine.new.state.peers ≡ [] }
     ensures run { LeadsTo D.conduct H.digest engine.old engine.new }
 {
-    if flush_every == 0 {
-        return Ok(());
+    match flushing {
+        Flushing::Never => Ok(()),
+        Flushing::Each(_) => engine.flush(),
     }
-    engine.flush()
 }

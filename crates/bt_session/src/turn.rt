@@ -9,11 +9,12 @@ ghost use Rattle.bt_session.specs.Ends.{IsBetweenTurns};
 ghost use Rattle.bt_session.specs.Parts.{Awaits, IsTurnOver, IsPart, event_after, EndsAfter};
 ghost use Rattle.bt_session.specs.PeerSteps.{IsAlone, HasNoOther, StaysAlone};
 
+use crate::buffers::SessionBuffers;
 use crate::calls::{next, rechoke};
 use crate::end::SessionEnd;
+use crate::flushing::Flushing;
 use crate::frames::write_frames;
 use crate::incoming::Incoming;
-use crate::room::Room;
 use crate::watched::{WatchedReader, WatchedWriter};
 use bt_book::PeerKey;
 use bt_disk::Disk;
@@ -21,22 +22,21 @@ use bt_engine::Engine;
 use bt_machine::Why;
 use bt_tree::NodeHash;
 
-/// The peer of a session, whether it goes on until all files are complete only, and after how many turns the
-/// engine is flushed; 0 for never.
+/// The peer of a session, whether it goes on until all files are complete only, and when the engine is flushed.
 #[derive(Clone, Copy)]
 pub(crate) struct Partner {
     pub(crate) key: PeerKey,
     pub(crate) until_complete: bool,
-    pub(crate) flush_every: u64,
+    pub(crate) flushing: Flushing,
 }
 
 /// One turn. Errors: the session ended in it.
-pub(crate) fn turn<D: Disk + Drop, H: NodeHash, R: WatchedReader, W: WatchedWriter>(
+pub(crate) fn take_turn<D: Disk + Drop, H: NodeHash, R: WatchedReader, W: WatchedWriter>(
     engine: &mut Engine<D, H>,
     partner: Partner,
     reader: &mut R,
     writer: &mut W,
-    room: &mut Room,
+    buffers: &mut SessionBuffers,
 ) -> Result<(), SessionEnd>
     requires alone { IsAlone partner.key engine.old.state }
     ensures part { IsPart D.conduct H.digest partner.key partner.until_complete
@@ -50,9 +50,9 @@ pub(crate) fn turn<D: Disk + Drop, H: NodeHash, R: WatchedReader, W: WatchedWrit
     ensures write_fault { IfErr result (OnlyAfterFailure WriteFault (W.has_failed writer.new)) }
     ensures flushed { StaysFlushed W.is_flushed (Err WriteFault) writer.old result writer.new }
 {
-    receive(engine, partner, reader, &mut room.incoming)?;
-    take_events(engine, partner, writer, room)?;
-    choose(engine, partner, writer, room)
+    receive(engine, partner, reader, &mut buffers.incoming)?;
+    take_events(engine, partner, writer, buffers)?;
+    choose(engine, partner, writer, buffers)
 }
 
 /// Feeds what the reader gives next. Errors: Ended where it has no more bytes; ReadFault; Memory.
@@ -88,7 +88,7 @@ fn take_events<D: Disk + Drop, H: NodeHash, W: WatchedWriter>(
     engine: &mut Engine<D, H>,
     partner: Partner,
     writer: &mut W,
-    room: &mut Room,
+    buffers: &mut SessionBuffers,
 ) -> Result<(), SessionEnd>
     requires alone { IsAlone partner.key engine.old.state }
     ensures part { (remaining : Option (List ℕ))
@@ -103,7 +103,7 @@ fn take_events<D: Disk + Drop, H: NodeHash, W: WatchedWriter>(
     ensures no_read_fault { IfErr result (λ end. end ≢ ReadFault) }
     ensures flushed { StaysFlushed W.is_flushed (Err WriteFault) writer.old result writer.new }
 {
-    while take_event(engine, partner, writer, room)? {}
+    while take_event(engine, partner, writer, buffers)? {}
     Ok(())
 }
 
@@ -113,7 +113,7 @@ fn take_event<D: Disk + Drop, H: NodeHash, W: WatchedWriter>(
     engine: &mut Engine<D, H>,
     partner: Partner,
     writer: &mut W,
-    room: &mut Room,
+    buffers: &mut SessionBuffers,
 ) -> Result<bool, SessionEnd>
     requires alone { IsAlone partner.key engine.old.state }
     ensures part { (remaining : Option (List ℕ))
@@ -130,8 +130,8 @@ fn take_event<D: Disk + Drop, H: NodeHash, W: WatchedWriter>(
 {
     match next(engine, partner.key) {
         Ok(Some(output)) => {
-            let alloc = room.alloc;
-            let buffer = &mut room.outgoing;
+            let alloc = buffers.alloc;
+            let buffer = &mut buffers.outgoing;
             write_frames(alloc, writer, partner.key, &output.send, buffer)?;
             match end_after(engine, partner.until_complete, output.close) {
                 Some(end) => Err(end),
@@ -164,7 +164,7 @@ fn choose<D: Disk + Drop, H: NodeHash, W: WatchedWriter>(
     engine: &mut Engine<D, H>,
     partner: Partner,
     writer: &mut W,
-    room: &mut Room,
+    buffers: &mut SessionBuffers,
 ) -> Result<(), SessionEnd>
     requires alone { IsAlone partner.key engine.old.state }
     ensures part { (remaining : Option (List ℕ))
@@ -180,8 +180,14 @@ fn choose<D: Disk + Drop, H: NodeHash, W: WatchedWriter>(
 {
     match rechoke(engine, partner.key) {
         Ok(output) => {
-            let alloc = room.alloc;
-            write_frames(alloc, writer, partner.key, &output.send, &mut room.outgoing)
+            let alloc = buffers.alloc;
+            write_frames(
+                alloc,
+                writer,
+                partner.key,
+                &output.send,
+                &mut buffers.outgoing,
+            )
         }
         Err(_) => Err(SessionEnd::Memory),
     }

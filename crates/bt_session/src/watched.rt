@@ -1,8 +1,7 @@
 //! Readers and writers whose failures are told.
 //!
 //! No clause of `Read` or `Write` says what holds where a call failed. Every reader is a `WatchedReader` and every
-//! writer a `WatchedWriter`, of which that is said. What is proved of code over these holds whatever `has_failed`
-//! and `is_flushed` may be, so that code tells of a failure only where a call failed.
+//! writer a `WatchedWriter`, of which that is said.
 ghost use Rattle.std.specs.Prelude.{OnErr, OnOk};
 ghost use Rattle.std.specs.Io.{ReadsAtMost};
 ghost use Rattle.std.specs.Io.KnownBytes.{Appends, Keeps, ReadConsumes};
@@ -11,6 +10,10 @@ use std::io;
 use std::io::{Read, Write};
 
 /// A reader of which it is told whether a read failed.
+///
+/// Each type that is read passes as one, and of each `has_failed` is true: std says of no call when it fails. So of a
+/// concrete reader a clause that cites it says nothing. Of code over any reader, which is proved whatever `has_failed`
+/// may be, it says that the code tells of a failed read only where one failed.
 pub trait WatchedReader: Read {
     /// Its last read failed.
     ghost has_failed: { Self → Type 0 };
@@ -26,7 +29,6 @@ pub trait WatchedReader: Read {
 impl<R: Read> WatchedReader for R {
     ghost use Rattle.std.specs.Prelude.{⊤};
 
-    // Of a type alone nothing is known: std says of no call when it fails.
     ghost has_failed = { λ _. ⊤ };
 
     fn read_once(&mut self, buffer: &mut [u8]) -> io::Result<usize> {
@@ -35,6 +37,9 @@ impl<R: Read> WatchedReader for R {
 }
 
 /// A writer of which it is told whether a call failed, and whether it is flushed.
+///
+/// As of readers, of each concrete type both members are true, and a clause that cites them says something only of code
+/// over any writer: that it tells of a fault only where a call failed, and ends behind a flush that succeeded.
 pub trait WatchedWriter: Write {
     /// Its last call failed.
     ghost has_failed: { Self → Type 0 };
@@ -58,7 +63,6 @@ pub trait WatchedWriter: Write {
 impl<W: Write> WatchedWriter for W {
     ghost use Rattle.std.specs.Prelude.{⊤};
 
-    // As of readers.
     ghost has_failed = { λ _. ⊤ };
 
     ghost is_flushed = { λ _. ⊤ };

@@ -6,7 +6,7 @@ use crate::partner::{TestReader, TestWriter};
 use crate::row::{Row, row_of};
 use crate::sessions::{tell_end, tell_rest};
 use bt_machine::{ConnectError, FlushError};
-use bt_session::{PeerEnd, SessionEnd, end_text, meet_peer_with_flushes, run_session_with_flushes};
+use bt_session::{Flushing, PeerEnd, SessionEnd, end_text, meet_peer, run_session_with_flushes};
 use std::alloc::{AllocError, Global};
 use std::fmt::Write;
 
@@ -18,9 +18,9 @@ pub fn flushing_row(
     words: &str,
     out: &mut String,
 ) -> Result<(), AllocError> {
-    let (every, words) = every_of(words);
+    let (flushing, words) = flushing_of(words);
     match row_of(alloc, words)? {
-        Some(row) => session(alloc, engine, every, row, out),
+        Some(row) => session(alloc, engine, flushing, row, out),
         None => out.push_str("no session\n"),
     }
 }
@@ -32,8 +32,8 @@ pub fn flushing_peers_row(
     words: &str,
     out: &mut String,
 ) -> Result<(), AllocError> {
-    let (every, words) = every_of(words);
-    peers_with_flushes(alloc, engine, every, words, out)
+    let (flushing, words) = flushing_of(words);
+    peers_with_flushes(alloc, engine, flushing, words, out)
 }
 
 /// Has a session with a peer that was reached, until all files are complete, with these flushes and one behind it, and
@@ -44,26 +44,35 @@ pub fn meeting_row(
     words: &str,
     out: &mut String,
 ) -> Result<(), AllocError> {
-    let (every, words) = every_of(words);
+    let (flushing, words) = flushing_of(words);
     if words.is_empty() {
-        return no_meeting(alloc, engine, every, out);
+        return no_meeting(alloc, engine, flushing, out);
     }
     match row_of(alloc, words)? {
-        Some(row) => meeting(alloc, engine, every, row, out),
+        Some(row) => meeting(alloc, engine, flushing, row, out),
         None => out.push_str("no session\n"),
     }
 }
 
-/// The number of the first word, 0 where it is none, and the other words.
-fn every_of(words: &str) -> (u64, &str) {
+/// When a flush is due, by the first word: after turns of such numbers, never where it is 0 or no number; and the other
+/// words.
+fn flushing_of(words: &str) -> (Flushing, &str) {
     let (every, words) = words.split_once(' ').unwrap_or((words, ""));
-    (every.parse().unwrap_or(0), words)
+    (flushing_each(every.parse().unwrap_or(0)), words)
+}
+
+/// A flush is due after each turn whose number is a multiple of this; for 0 never.
+pub fn flushing_each(every: u32) -> Flushing {
+    match every {
+        0 => Flushing::Never,
+        every => Flushing::Each(every),
+    }
 }
 
 fn session(
     alloc: Global,
     engine: &mut TestEngine,
-    every: u64,
+    flushing: Flushing,
     row: Row,
     out: &mut String,
 ) -> Result<(), AllocError> {
@@ -74,7 +83,7 @@ fn session(
     } = row;
     let mut reader = TestReader::new(readings);
     let mut writer = TestWriter::new(alloc, fault);
-    match end_of(alloc, engine, &mut reader, &mut writer, turns, every) {
+    match end_of(alloc, engine, &mut reader, &mut writer, turns, flushing) {
         Some(end) => {
             tell_flushed_end(out, &end)?;
             tell_rest(alloc, engine, reader.left(), &writer.bytes, out)
@@ -90,26 +99,26 @@ fn end_of(
     reader: &mut TestReader,
     writer: &mut TestWriter,
     turns: u64,
-    every: u64,
+    flushing: Flushing,
 ) -> Option<Result<Result<SessionEnd, FlushError>, ConnectError>> {
     if engine.peers() != 0 {
         return None;
     }
-    Some(run_session_with_flushes(alloc, engine, reader, writer, true, turns, every))
+    Some(run_session_with_flushes(alloc, engine, reader, writer, true, turns, flushing))
 }
 
 /// A peer that is not reached.
 fn no_meeting(
     alloc: Global,
     engine: &mut TestEngine,
-    every: u64,
+    flushing: Flushing,
     out: &mut String,
 ) -> Result<(), AllocError> {
     if engine.peers() != 0 {
         return out.push_str("a peer is there\n");
     }
     let reached: Option<(TestReader, TestWriter)> = None;
-    let (end, flushed) = meet_peer_with_flushes(alloc, engine, reached, true, 1, every);
+    let (end, flushed) = meet_peer(alloc, engine, reached, true, 1, flushing);
     tell_met(out, end, flushed)?;
     out.push_str("\n")
 }
@@ -117,7 +126,7 @@ fn no_meeting(
 fn meeting(
     alloc: Global,
     engine: &mut TestEngine,
-    every: u64,
+    flushing: Flushing,
     row: Row,
     out: &mut String,
 ) -> Result<(), AllocError> {
@@ -128,7 +137,7 @@ fn meeting(
     } = row;
     let mut reader = TestReader::new(readings);
     let mut writer = TestWriter::new(alloc, fault);
-    match met(alloc, engine, &mut reader, &mut writer, turns, every) {
+    match met(alloc, engine, &mut reader, &mut writer, turns, flushing) {
         Some((end, flushed)) => {
             tell_met(out, end, flushed)?;
             tell_rest(alloc, engine, reader.left(), &writer.bytes, out)
@@ -144,19 +153,19 @@ fn met(
     reader: &mut TestReader,
     writer: &mut TestWriter,
     turns: u64,
-    every: u64,
+    flushing: Flushing,
 ) -> Option<(PeerEnd, Result<(), FlushError>)> {
     if engine.peers() != 0 {
         return None;
     }
     // A tuple of two `&mut` that a name holds is not moved into the call.
-    Some(meet_peer_with_flushes(
+    Some(meet_peer(
         alloc,
         engine,
         Some((&mut *reader, &mut *writer)),
         true,
         turns,
-        every,
+        flushing,
     ))
 }
 

@@ -1,14 +1,16 @@
 //! Trees that take the proofs of a log, and the runs that its marks record.
-ghost use Rattle.std.specs.Prelude.{◌≢◌, IfOk};
-ghost use Rattle.std.specs.List.{AllPairs};
+ghost use Rattle.std.specs.Prelude.{[], ◌∷◌, ◌≡◌, IfOk, IfSome};
+ghost use Rattle.bt_engine_state.specs.Roots.{AreNumbered};
 
 use bt_disk::MemoryDisk;
 use bt_engine_recall::{MarkRun, recorded_runs, take_proofs};
+use bt_engine_state::Roots;
 use bt_resume::ResumeLog;
 use bt_rows::{RowError, Words, whole_answer};
 use bt_sparse::SparseTree;
-use bt_tree::Plain;
+use bt_tree::{Hash32, Plain};
 use std::alloc::{AllocError, Global};
+use std::collections::BTreeMap;
 use std::fmt::Write;
 
 /// Adds what a row answers. What is no row says so.
@@ -42,8 +44,14 @@ fn runs_of(alloc: Global, words: &mut Words) -> Result<String, RowError> {
 /// Two trees take the proofs of a log of these bytes.
 fn answer_of(alloc: Global, words: &mut Words) -> Result<String, RowError> {
     let log = log_from(alloc, words)?;
-    let trees = trees_from(alloc, words)?;
-    told_by(alloc, &log, trees)
+    let first = tree_from(alloc, words)?;
+    let second = tree_from(alloc, words)?;
+    let Some(roots) = roots_of(alloc, first.root(), second.root())? else {
+        return Err(RowError::Unread);
+    };
+    let mut trees = both(alloc, first, second)?;
+    take_proofs(alloc, &mut trees, &roots, log.hints())?;
+    Ok(told_known(alloc, &trees)?)
 }
 
 fn log_from(alloc: Global, words: &mut Words) -> Result<ResumeLog<MemoryDisk>, RowError> {
@@ -54,16 +62,21 @@ fn log_from(alloc: Global, words: &mut Words) -> Result<ResumeLog<MemoryDisk>, R
     }
 }
 
-/// Two trees, of other roots.
-fn trees_from(alloc: Global, words: &mut Words) -> Result<Vec<SparseTree<Plain>>, RowError>
-    ensures { IfOk result (λ trees. AllPairs (λ j k. j.root ≢ k.root) trees.items) }
+/// The numbers of two roots in their order, where they are two.
+fn roots_of(alloc: Global, first: Hash32, second: Hash32) -> Result<Option<Roots>, AllocError>
+    ensures { IfOk result
+        (λ made. IfSome made (λ roots. AreNumbered (first ∷ second ∷ []) roots.trees)) }
 {
-    let first = tree_from(alloc, words)?;
-    let second = tree_from(alloc, words)?;
-    if first.root() == second.root() {
-        return Err(RowError::Unread);
+    let mut trees = BTreeMap::new(alloc);
+    trees.insert(first, 0)?;
+    if trees.insert(second, 1)?.is_some() {
+        return Ok(None);
     }
-    Ok(both(alloc, first, second)?)
+    Ok(Some(Roots {
+        first_files: Vec::new(alloc),
+        next_files: Vec::new(alloc),
+        trees,
+    }))
 }
 
 fn both(
@@ -71,8 +84,7 @@ fn both(
     first: SparseTree<Plain>,
     second: SparseTree<Plain>,
 ) -> Result<Vec<SparseTree<Plain>>, AllocError>
-    requires apart { first.root ≢ second.root }
-    ensures { IfOk result (λ trees. AllPairs (λ j k. j.root ≢ k.root) trees.items) }
+    ensures { IfOk result (λ trees. trees.items ≡ first ∷ second ∷ []) }
 {
     let mut trees = Vec::with_capacity(alloc, 2)?;
     trees.push(first)?;
@@ -87,19 +99,11 @@ fn tree_from(alloc: Global, words: &mut Words) -> Result<SparseTree<Plain>, RowE
     Ok(SparseTree::new(alloc, Plain, geometry, root)?)
 }
 
-/// Tells of each tree which leaves it knows once it has taken the log's proofs.
-fn told_by(
-    alloc: Global,
-    log: &ResumeLog<MemoryDisk>,
-    trees: Vec<SparseTree<Plain>>,
-) -> Result<String, RowError>
-    requires apart { AllPairs (λ j k. j.root ≢ k.root) trees.items }
-{
-    let mut trees = trees;
-    take_proofs(alloc, &mut trees, log.hints())?;
+/// Tells of each tree which leaves it knows.
+fn told_known(alloc: Global, trees: &[SparseTree<Plain>]) -> Result<String, AllocError> {
     let mut out = String::new(alloc);
     out.push_str("known")?;
-    for tree in &trees {
+    for tree in trees {
         tell_known(&mut out, tree)?;
     }
     Ok(out)

@@ -4,7 +4,9 @@ ghost use Rattle.std.specs.Prelude.{◌≡◌, ◌≤◌, IfSome};
 use crate::engine::TestEngine;
 use bt_machine::FlushError;
 use bt_rows::bytes_of;
-use bt_session::{Link, PeerEnd, SessionEnd, end_text, run_peers, run_peers_with_flushes};
+use bt_session::{
+    Flushing, Link, PeerEnd, SessionEnd, end_text, run_peers, run_peers_with_flushes,
+};
 use std::alloc::{AllocError, Global};
 use std::fmt::Write;
 use std::io::{self, Sink};
@@ -70,12 +72,12 @@ pub fn peers_row(
     }
 }
 
-/// Tries three peers, with a flush after each `every`-th turn and after each session: what came of each, and what the
-/// last flush answered.
+/// Tries three peers, with flushes among turns and after each session: what came of each, and what the last flush
+/// answered.
 pub fn peers_with_flushes(
     alloc: Global,
     engine: &mut TestEngine,
-    every: u64,
+    flushing: Flushing,
     words: &str,
     out: &mut String,
 ) -> Result<(), AllocError> {
@@ -85,7 +87,7 @@ pub fn peers_with_flushes(
     }
     let mut links = [link_at(&sent, 0), link_at(&sent, 1), link_at(&sent, 2)];
     let mut ends = [PeerEnd::Session(SessionEnd::Memory); 3];
-    let flushed = run_peers_with_flushes(alloc, engine, &mut links, &mut ends, TURNS, every);
+    let flushed = run_peers_with_flushes(alloc, engine, &mut links, &mut ends, TURNS, flushing);
     tell_ends(out, &ends)?;
     tell_flushed(out, flushed)
 }

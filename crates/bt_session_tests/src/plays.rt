@@ -6,7 +6,7 @@ use crate::scene::{Act, Scene, SceneNet, WorkingReader};
 use crate::sessions::tell_end;
 use bt_progress::Unwatched;
 use bt_rows::{RowError, Words, whole_answer};
-use bt_session::{Link, PeerEnd, end_text, meet_peer};
+use bt_session::{Flushing, Link, PeerEnd, end_text, meet_peer};
 use bt_sockets::{IDLE_SECONDS, Passage, SESSION_TURNS, TcpLink, listen, serve};
 use std::alloc::{AllocError, Global};
 use std::fmt::Write;
@@ -154,7 +154,8 @@ fn fetched(
         Some((reader, writer)) => Some((WorkingReader::new(reader, net.0), writer)),
         None => None,
     };
-    meet_peer(alloc, engine, reached, true, SESSION_TURNS)
+    let (end, _) = meet_peer(alloc, engine, reached, true, SESSION_TURNS, Flushing::Never);
+    end
 }
 
 fn served(

@@ -3,6 +3,7 @@ ghost use Rattle.std.specs.Prelude.{◌≡◌};
 
 use crate::device::Device;
 use crate::engine::{TestDisk, tell_reports, torrent_of};
+use crate::flushes::flushing_each;
 use crate::gate::MemoryGate;
 use crate::lists::{new_devices, set_of};
 use crate::member::Member;
@@ -16,6 +17,7 @@ use bt_machine::FlushError;
 use bt_meta::read_torrent;
 use bt_progress::Unwatched;
 use bt_rows::{RowError, Words, bytes_of, put, whole_answer};
+use bt_session::Flushing;
 use bt_swarm::run_swarm;
 use std::alloc::{AllocError, Global};
 use std::fmt::Write;
@@ -38,7 +40,7 @@ pub struct Swarms {
 #[derive(Drop)]
 struct Order {
     until_complete: bool,
-    flush_every: u64,
+    flushing: Flushing,
     /// After how many rounds all end.
     rounds: u64,
     choices: Vec<u64>,
@@ -127,7 +129,7 @@ fn order_of(alloc: Global, words: &mut Words<'_>) -> Result<Order, RowError> {
     };
     let mut order = Order {
         until_complete,
-        flush_every: words.long()?,
+        flushing: flushing_each(words.number()?),
         rounds: words.long()?,
         choices: Vec::new(alloc),
         is_brief: false,
@@ -217,7 +219,7 @@ fn swarm(
     if engine.peers() != 0 {
         return Err(RowError::Failed);
     }
-    Ok(run_swarm(alloc, engine, gate, order.until_complete, order.flush_every))
+    Ok(run_swarm(alloc, engine, gate, order.until_complete, order.flushing))
 }
 
 /// What happened, how it ended, what came of each connection, and how far each file is.

@@ -92,16 +92,6 @@ module _ {R W : Type 0} (remaining : R → Option (List ℕ)) (contents : W → 
     ends = λ e is. inr (let same : end ≡ e = cc in subst may same can);
   }
 
-  -- one that has ended gets none
-  pub moves_ended : (may : SessionEnd → Type 0) (frames : List Frame) (end : SessionEnd) (m : Member R W) → m.end ≡ Some end → Moves remaining contents [] frames may m m
-  moves_ended may frames end m ended = record {
-    same_key = refl;
-    same_place = refl;
-    read = Consumes-nil (remaining m.reader);
-    written = subst (λ (e : Option SessionEnd). IsWrittenOn (contents m.writer) (contents m.writer) frames e m.end) (sym ended) (Keeps-refl (contents m.writer), ended);
-    ends = λ e is. inl is;
-  }
-
   pub moves_trans : (bytes more : List ℕ) (frames further : List Frame) (may can : SessionEnd → Type 0) (a b c : Member R W)
       → Moves remaining contents bytes frames may a b → Moves remaining contents more further can b c
       → Moves remaining contents (bytes ++ more) (frames ++ further) (λ end. may end ⊎ can end) a c

@@ -1,5 +1,5 @@
 -- What is put into a way out, one after the other.
-use Rattle.std.proofs.Common.{[], ◌≡◌, ℕ, List, ◌∷◌, ◌++◌, Option, Some, None, refl, sym, ap, ◌∙◌, subst, append-nil, append_assoc}
+use Rattle.std.proofs.Common.{[], ◌≡◌, ℕ, List, ◌∷◌, ◌++◌, Option, Some, None, refl, sym, ap, ◌∙◌, subst, append_assoc}
 use Rattle.std.proofs.KnownBytes.{Appends-nil, Appends-trans, Appends-kept, Keeps-trans}
 use Rattle.std.specs.Io.KnownBytes.{Appends, Keeps}
 use Rattle.bt_machine.specs.declared.answer.Frame.{Frame}
@@ -46,10 +46,6 @@ put_kept x y z f p kept = record { bytes = p.bytes; spelled = p.spelled; behind 
 -- none of them
 pub first_none : (x y : Option (List ℕ)) (frames : List Frame) → Keeps x y → HasFirst x y frames
 first_none x y frames kept = record { first = []; rest = frames; are = refl; put = put_none x y kept }
-
--- all of them
-first_all : (x y : Option (List ℕ)) (frames : List Frame) → ArePut x y frames → HasFirst x y frames
-first_all x y frames p = record { first = frames; rest = []; are = sym (append-nil frames); put = p }
 
 -- all, and then the first ones
 first_then : (x y z : Option (List ℕ)) (f g : List Frame) → ArePut x y f → HasFirst y z g → HasFirst x z (f ++ g)

@@ -35,7 +35,8 @@ pub(crate) fn feed<D: Disk + Drop, H: NodeHash>(
     key: PeerKey,
     bytes: &[u8],
 ) -> Result<(), EngineError>
-    ensures step { Steps D.conduct H.digest engine.old (Feed key bytes.now) (Fed result) engine.new }
+    ensures step { Steps D.conduct H.digest engine.old (Feed key bytes.now)
+        (Fed result) engine.new }
 {
     engine.feed(key, bytes)
 }

@@ -7,6 +7,10 @@ use bt_session::{SessionEnd, WatchedReader};
 use std::io;
 
 /// A way out of a connection, which takes all that is put into it and passes it on as the peer takes it.
+///
+/// Of a socket it can't be told when a call fails, so of each way out that there is `has_failed` is true, as
+/// `is_troubled` of each gate. What cites them says something only of the code of this crate, which is proved whatever
+/// they may be: that it tells of a fault only where a call failed, or the gate told of one.
 pub trait QueuedWriter {
     /// What was put into it, where that is known.
     ghost contents: { Self → Option (List ℕ) };

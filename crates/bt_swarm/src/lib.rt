@@ -2,11 +2,11 @@
 //! one's way out, over any readers and any ways out.
 #![tactic(auto)]
 
+mod buffers;
 mod calls;
 mod frames;
 mod gate;
 mod member;
-mod room;
 mod run;
 mod swarm;
 mod turn;

@@ -4,9 +4,9 @@ ghost use Rattle.bt_session.specs.Frames.{frames_to, AllFit};
 ghost use Rattle.bt_swarm.specs.Causes.{IsFaultOf};
 ghost use Rattle.bt_swarm.specs.Moves.{EachMovesBy, Moves};
 
+use crate::buffers::SwarmBuffers;
 use crate::frames::{put, put_frames};
 use crate::gate::{Gate, QueuedWriter};
-use crate::room::Room;
 use bt_book::PeerKey;
 use bt_machine::Frame;
 use bt_session::{SessionEnd, WatchedReader};
@@ -60,19 +60,23 @@ pub(crate) fn read_of<G: Gate>(member: &mut Member<G::R, G::W>, buffer: &mut [u8
 pub(crate) fn deliver<G: Gate>(
     members: &mut [Member<G::R, G::W>],
     send: &[(PeerKey, Frame)],
-    room: &mut Room,
+    buffers: &mut SwarmBuffers,
 )
     requires fit { AllFit send.now }
     ensures { EachMovesBy G.R.remaining G.W.contents (λ key. []) (λ key. frames_to key send.now)
         (λ key. IsFaultOf G.R.has_failed G.W.has_failed G.is_troubled) members.old members.new }
 {
     for member in members.iter_mut() {
-        deliver_to::<G>(member, send, room);
+        deliver_to::<G>(member, send, buffers);
     }
 }
 
 /// Puts what an event sends to one into its way out.
-fn deliver_to<G: Gate>(member: &mut Member<G::R, G::W>, send: &[(PeerKey, Frame)], room: &mut Room)
+fn deliver_to<G: Gate>(
+    member: &mut Member<G::R, G::W>,
+    send: &[(PeerKey, Frame)],
+    buffers: &mut SwarmBuffers,
+)
     requires fit { AllFit send.now }
     ensures { Moves G.R.remaining G.W.contents [] (frames_to member.old.key send.now)
         (IsFaultOf G.R.has_failed G.W.has_failed G.is_troubled) member.old member.new }
@@ -80,13 +84,13 @@ fn deliver_to<G: Gate>(member: &mut Member<G::R, G::W>, send: &[(PeerKey, Frame)
     let None = member.end else {
         return;
     };
-    let alloc = room.alloc;
+    let alloc = buffers.alloc;
     if let Err(end) = put_frames(
         alloc,
         &mut member.writer,
         member.key,
         send,
-        &mut room.outgoing,
+        &mut buffers.outgoing,
     ) {
         member.end = Some(end);
     }

@@ -4,28 +4,29 @@ ghost use Rattle.bt_machine.specs.Report.{all_complete};
 ghost use Rattle.bt_engine.specs.Leads.{LeadsTo};
 ghost use Rattle.bt_engine.specs.Standing.{Stands, KeepsBlocks};
 ghost use Rattle.bt_session.specs.declared.end.SessionEnd.TheVariants.{Complete, ReadFault};
+ghost use Rattle.bt_session.specs.declared.flushing.Flushing.TheVariants.{Never};
 ghost use Rattle.bt_session.specs.Failures.{OneFailed};
 ghost use Rattle.bt_swarm.specs.Causes.{ReadFailed, IsRefused};
 ghost use Rattle.bt_swarm.specs.Moves.{AreKeyed};
 ghost use Rattle.bt_swarm.specs.Steps.{IsComplete, MayBeFlushed};
 ghost use Rattle.bt_swarm.specs.Swarm.{HasServed, SwarmsOn, IsAtEnd, IsOver, ReadFailedOrCut};
 
+use crate::buffers::SwarmBuffers;
 use crate::calls::flush;
 use crate::gate::Gate;
 use crate::member::{Member, takes_more};
-use crate::room::Room;
 use crate::swarm::{admit, disband, let_go};
-use crate::turn::serve;
+use crate::turn::give_turns;
 use bt_disk::Disk;
 use bt_engine::{Engine, what_leads_on_stands};
 use bt_machine::FlushError;
-use bt_session::SessionEnd;
+use bt_session::{Flushing, SessionEnd};
 use bt_tree::NodeHash;
 use std::alloc::Global;
 
 /// Serves all connections of a gate at once, until nobody is there and nobody is to come, or with
-/// `until_complete` until all files are complete; then all go. With `flush_every` above 0 the engine is
-/// flushed after so many turns of all together, and once more at the end.
+/// `until_complete` until all files are complete; then all go. The engine is flushed after so many turns of all
+/// together, which are counted once a round, and once more at the end; or never.
 ///
 /// Errors: a flush was refused, and all went.
 pub fn run_swarm<D: Disk + Drop, H: NodeHash, G: Gate>(
@@ -33,7 +34,7 @@ pub fn run_swarm<D: Disk + Drop, H: NodeHash, G: Gate>(
     engine: &mut Engine<D, H>,
     gate: &mut G,
     until_complete: bool,
-    flush_every: u64,
+    flushing: Flushing,
 ) -> Result<(), FlushError>
     requires no_peer { engine.old.state.peers ≡ [] }
     requires unwaited { G.waits gate.old ≡ 0 }
@@ -43,16 +44,17 @@ pub fn run_swarm<D: Disk + Drop, H: NodeHash, G: Gate>(
         engine.old gate.old engine.new gate.new }
     ensures over { OnOk result (IsOver (MayBeFlushed D.conduct H.digest) until_complete
         engine.new (G.is_shut gate.new) (G.waits gate.new)) }
-    ensures refused { IfErr result (λ error. IsRefused D.conduct H.digest engine.old error engine.new) }
+    ensures refused { IfErr result
+        (λ error. IsRefused D.conduct H.digest engine.old error engine.new) }
     ensures gone { engine.new.state.peers ≡ [] }
     ensures run { LeadsTo D.conduct H.digest engine.old engine.new }
     ensures stands { Stands D.conduct engine.old engine.new }
-    ensures flushed { flush_every ≢ 0 → OnOk result (KeepsBlocks D.conduct engine.new) }
+    ensures flushed { flushing ≢ Never → OnOk result (KeepsBlocks D.conduct engine.new) }
 {
     what_leads_on_stands::<D, H>(engine.hash());
     engine.keeps_laws();
-    serve_all(alloc, engine, gate, until_complete, flush_every)?;
-    flush_last(engine, flush_every)
+    serve_all(alloc, engine, gate, until_complete, flushing)?;
+    flush_last(engine, flushing)
 }
 
 /// The same without the last flush.
@@ -61,7 +63,7 @@ fn serve_all<D: Disk + Drop, H: NodeHash, G: Gate>(
     engine: &mut Engine<D, H>,
     gate: &mut G,
     until_complete: bool,
-    flush_every: u64,
+    flushing: Flushing,
 ) -> Result<(), FlushError>
     requires no_peer { engine.old.state.peers ≡ [] }
     requires unwaited { G.waits gate.old ≡ 0 }
@@ -71,13 +73,14 @@ fn serve_all<D: Disk + Drop, H: NodeHash, G: Gate>(
         engine.old gate.old engine.new gate.new }
     ensures over { OnOk result (IsOver (λ asked now. now ≡ asked) until_complete
         engine.new (G.is_shut gate.new) (G.waits gate.new)) }
-    ensures refused { IfErr result (λ error. IsRefused D.conduct H.digest engine.old error engine.new) }
+    ensures refused { IfErr result
+        (λ error. IsRefused D.conduct H.digest engine.old error engine.new) }
     ensures gone { engine.new.state.peers ≡ [] }
 {
     let mut members = Vec::new(alloc);
-    let mut room = Room::new(alloc);
+    let mut buffers = SwarmBuffers::new(alloc);
     let mut pace = Pace {
-        flush_every,
+        flushing,
         turns: 0,
         one_went: false,
     };
@@ -87,7 +90,7 @@ fn serve_all<D: Disk + Drop, H: NodeHash, G: Gate>(
         &mut members,
         until_complete,
         &mut pace,
-        &mut room,
+        &mut buffers,
     );
     let end = end_of_all(engine, until_complete);
     disband(engine, gate, &mut members, end, &answer);
@@ -109,27 +112,28 @@ fn end_of_all<D: Disk + Drop, H: NodeHash>(
     }
 }
 
-/// Flushes the engine, unless that is never due. Errors: the flush was refused.
+/// Flushes the engine, unless it is never flushed. Errors: the flush was refused.
 fn flush_last<D: Disk + Drop, H: NodeHash>(
     engine: &mut Engine<D, H>,
-    flush_every: u64,
+    flushing: Flushing,
 ) -> Result<(), FlushError>
     ensures step { MayBeFlushed D.conduct H.digest engine.old engine.new }
-    ensures refused { IfErr result (λ error. IsRefused D.conduct H.digest engine.old error engine.new) }
+    ensures refused { IfErr result
+        (λ error. IsRefused D.conduct H.digest engine.old error engine.new) }
     ensures complete { all_complete engine.new.state ≡ all_complete engine.old.state }
-    ensures flushed { flush_every ≢ 0 → OnOk result (KeepsBlocks D.conduct engine.new) }
+    ensures flushed { flushing ≢ Never → OnOk result (KeepsBlocks D.conduct engine.new) }
 {
-    if flush_every == 0 {
-        return Ok(());
+    match flushing {
+        Flushing::Never => Ok(()),
+        Flushing::Each(_) => flush(engine),
     }
-    flush(engine)
 }
 
 /// What is kept between rounds.
 #[derive(Clone, Copy)]
 struct Pace {
-    /// After how many turns a flush is due; 0 for never.
-    flush_every: u64,
+    /// After how many turns a flush is due.
+    flushing: Flushing,
     /// How many turns there were since the last.
     turns: u64,
     /// Whether one went since the peers to serve were chosen.
@@ -143,7 +147,7 @@ fn take_rounds<D: Disk + Drop, H: NodeHash, G: Gate>(
     members: &mut Vec<Member<G::R, G::W>>,
     until_complete: bool,
     pace: &mut Pace,
-    room: &mut Room,
+    buffers: &mut SwarmBuffers,
 ) -> Result<(), FlushError>
     requires unwaited { G.waits gate.old ≡ 0 }
     requires keyed { AreKeyed engine.old.state members.old.items }
@@ -153,13 +157,14 @@ fn take_rounds<D: Disk + Drop, H: NodeHash, G: Gate>(
         engine.old members.old.items gate.old engine.new members.new.items gate.new }
     ensures over { OnOk result (IsAtEnd until_complete
         engine.new members.new.items (G.is_shut gate.new) (G.waits gate.new)) }
-    ensures refused { IfErr result (λ error. IsRefused D.conduct H.digest engine.old error engine.new) }
+    ensures refused { IfErr result
+        (λ error. IsRefused D.conduct H.digest engine.old error engine.new) }
 {
     for waited in 0..u64::MAX {
         if is_over(engine, gate, members.as_slice(), until_complete) {
             return Ok(());
         }
-        round(engine, gate, members, pace, room)?;
+        round(engine, gate, members, pace, buffers)?;
     }
     Ok(())
 }
@@ -190,7 +195,7 @@ fn round<D: Disk + Drop, H: NodeHash, G: Gate>(
     gate: &mut G,
     members: &mut Vec<Member<G::R, G::W>>,
     pace: &mut Pace,
-    room: &mut Room,
+    buffers: &mut SwarmBuffers,
 ) -> Result<(), FlushError>
     requires few { G.waits gate.old < 2 ^ 64 - 1 }
     requires keyed { AreKeyed engine.old.state members.old.items }
@@ -199,12 +204,13 @@ fn round<D: Disk + Drop, H: NodeHash, G: Gate>(
         (OneFailed G.W.has_failed) G.gives G.R.remaining G.W.contents G.leads
         engine.old members.old.items gate.old engine.new members.new.items gate.new }
     ensures waits { G.waits gate.new ≡ G.waits gate.old + 1 }
-    ensures refused { IfErr result (λ error. IsRefused D.conduct H.digest engine.old error engine.new) }
+    ensures refused { IfErr result
+        (λ error. IsRefused D.conduct H.digest engine.old error engine.new) }
 {
     let due = gate.wait(pace.one_went || has_work::<G>(members.as_slice()));
-    admit(engine, gate, members, room);
+    admit(engine, gate, members, buffers);
     let choice = due.choice || pace.one_went;
-    let turns = serve(engine, gate, members.as_mut_slice(), choice, room);
+    let turns = give_turns(engine, gate, members.as_mut_slice(), choice, buffers);
     // before those go who have ended: so what the last one gave is on the devices when the gate tells of it
     let nobody_stays = have_all_ended::<G>(members.as_slice());
     let flushed = flush_if_due(engine, pace, turns, nobody_stays);
@@ -241,11 +247,15 @@ fn flush_if_due<D: Disk + Drop, H: NodeHash>(
     nobody_stays: bool,
 ) -> Result<(), FlushError>
     ensures step { MayBeFlushed D.conduct H.digest engine.old engine.new }
-    ensures refused { IfErr result (λ error. IsRefused D.conduct H.digest engine.old error engine.new) }
+    ensures refused { IfErr result
+        (λ error. IsRefused D.conduct H.digest engine.old error engine.new) }
 {
     pace.turns = pace.turns.saturating_add(turns);
-    let is_due = pace.turns >= pace.flush_every || (nobody_stays && pace.turns > 0);
-    if pace.flush_every == 0 || !is_due {
+    let Flushing::Each(every) = pace.flushing else {
+        return Ok(());
+    };
+    let is_due = nobody_stays || pace.turns >= u64::from(every);
+    if pace.turns == 0 || !is_due {
         return Ok(());
     }
     pace.turns = 0;

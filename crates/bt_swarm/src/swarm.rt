@@ -6,10 +6,10 @@ ghost use Rattle.bt_swarm.specs.Causes.{ReadFailed, MayEndAll};
 ghost use Rattle.bt_swarm.specs.Moves.{AreKeyed, EachMovesBy};
 ghost use Rattle.bt_swarm.specs.Swarm.{SwarmsOn, HasLeft, ReadFailedOrCut};
 
+use crate::buffers::SwarmBuffers;
 use crate::calls::{connect, lost};
 use crate::gate::Gate;
 use crate::member::{Member, deliver, put_end};
-use crate::room::Room;
 use bt_disk::Disk;
 use bt_engine::Engine;
 use bt_machine::FlushError;
@@ -24,7 +24,7 @@ pub(crate) fn admit<D: Disk + Drop, H: NodeHash, G: Gate>(
     engine: &mut Engine<D, H>,
     gate: &mut G,
     members: &mut Vec<Member<G::R, G::W>>,
-    room: &mut Room,
+    buffers: &mut SwarmBuffers,
 )
     requires keyed { AreKeyed engine.old.state members.old.items }
     ensures keyed { AreKeyed engine.new.state members.new.items }
@@ -34,7 +34,7 @@ pub(crate) fn admit<D: Disk + Drop, H: NodeHash, G: Gate>(
     ensures waits { G.waits gate.new ≡ G.waits gate.old }
 {
     for place in 0..MOST {
-        if !admit_at(engine, gate, members, place, room) {
+        if !admit_at(engine, gate, members, place, buffers) {
             return;
         }
     }
@@ -46,7 +46,7 @@ fn admit_at<D: Disk + Drop, H: NodeHash, G: Gate>(
     gate: &mut G,
     members: &mut Vec<Member<G::R, G::W>>,
     place: usize,
-    room: &mut Room,
+    buffers: &mut SwarmBuffers,
 ) -> bool
     requires keyed { AreKeyed engine.old.state members.old.items }
     ensures keyed { AreKeyed engine.new.state members.new.items }
@@ -58,7 +58,7 @@ fn admit_at<D: Disk + Drop, H: NodeHash, G: Gate>(
     if is_taken::<G>(members.as_slice(), place) {
         return true;
     }
-    join(engine, gate, members, place, room)
+    join(engine, gate, members, place, buffers)
 }
 
 /// Whether one that is there has this place.
@@ -78,7 +78,7 @@ fn join<D: Disk + Drop, H: NodeHash, G: Gate>(
     gate: &mut G,
     members: &mut Vec<Member<G::R, G::W>>,
     place: usize,
-    room: &mut Room,
+    buffers: &mut SwarmBuffers,
 ) -> bool
     requires keyed { AreKeyed engine.old.state members.old.items }
     ensures keyed { AreKeyed engine.new.state members.new.items }
@@ -105,7 +105,7 @@ fn join<D: Disk + Drop, H: NodeHash, G: Gate>(
         may_have_events: false,
         end: None,
     });
-    deliver::<G>(members.as_mut_slice(), &greeting.send, room);
+    deliver::<G>(members.as_mut_slice(), &greeting.send, buffers);
     true
 }
 
@@ -186,7 +186,8 @@ pub(crate) fn disband<D: Disk + Drop, H: NodeHash, G: Gate>(
     end: SessionEnd,
     answer: &Result<(), FlushError>,
 )
-    requires cause { members.old.items ≢ [] → MayEndAll (ReadFailedOrCut G.R.has_failed G.is_troubled
+    requires cause { members.old.items ≢ [] → MayEndAll
+        (ReadFailedOrCut G.R.has_failed G.is_troubled
         answer.now (G.waits gate.old)) (OneFailed G.W.has_failed) engine.old end }
     requires keyed { AreKeyed engine.old.state members.old.items }
     ensures keyed { AreKeyed engine.new.state members.new.items }
@@ -235,7 +236,8 @@ fn dismiss_last<D: Disk + Drop, H: NodeHash, G: Gate>(
 /// Ends one, unless it has ended: gives its end.
 fn put_end_at<G: Gate>(members: &mut [Member<G::R, G::W>], at: usize, end: SessionEnd) -> SessionEnd
     requires { at < length members.old }
-    ensures moves { EachMovesBy G.R.remaining G.W.contents (λ key. []) (λ key. []) (λ key is. is ≡ end)
+    ensures moves { EachMovesBy G.R.remaining G.W.contents (λ key. []) (λ key. [])
+        (λ key is. is ≡ end)
         members.old members.new }
     ensures ended { (d : Member G.R G.W) → (slice_index_or members.new at d).end ≡ Some result }
 {

@@ -4,10 +4,10 @@ ghost use Rattle.bt_session.specs.Failures.{OneFailed};
 ghost use Rattle.bt_swarm.specs.Causes.{ReadFailed};
 ghost use Rattle.bt_swarm.specs.Moves.{GoesOn, HaveOwnKeys};
 
+use crate::buffers::SwarmBuffers;
 use crate::calls::{feed, next, rechoke};
 use crate::gate::Gate;
 use crate::member::{Member, deliver, note_events, pass_on, put_end, read_of, takes_more};
-use crate::room::Room;
 use bt_disk::Disk;
 use bt_engine::Engine;
 use bt_session::SessionEnd;
@@ -24,21 +24,21 @@ const SERVED: usize = 4;
 
 /// A turn for each connection that is ready. Then the peers to serve are chosen anew, where that is due or so
 /// few are there that all may be served; and what waits is passed on. Says how many turns there were.
-pub(crate) fn serve<D: Disk + Drop, H: NodeHash, G: Gate>(
+pub(crate) fn give_turns<D: Disk + Drop, H: NodeHash, G: Gate>(
     engine: &mut Engine<D, H>,
     gate: &G,
     members: &mut [Member<G::R, G::W>],
     choice_due: bool,
-    room: &mut Room,
+    buffers: &mut SwarmBuffers,
 ) -> u64
     requires own_keys { HaveOwnKeys members.old }
     ensures goes { GoesOn D.conduct H.digest (ReadFailed G.R.has_failed G.is_troubled)
         (OneFailed G.W.has_failed) G.R.remaining G.W.contents
         engine.old members.old engine.new members.new }
 {
-    let turns = take_turns(engine, gate, members, room);
+    let turns = take_turns(engine, gate, members, buffers);
     let due = choice_due || (turns > 0 && members.len() <= SERVED);
-    choose_if::<D, H, G>(due, engine, members, room);
+    choose_if::<D, H, G>(due, engine, members, buffers);
     pass_on(gate, members);
     turns
 }
@@ -48,7 +48,7 @@ fn take_turns<D: Disk + Drop, H: NodeHash, G: Gate>(
     engine: &mut Engine<D, H>,
     gate: &G,
     members: &mut [Member<G::R, G::W>],
-    room: &mut Room,
+    buffers: &mut SwarmBuffers,
 ) -> u64
     requires own_keys { HaveOwnKeys members.old }
     ensures goes { GoesOn D.conduct H.digest (ReadFailed G.R.has_failed G.is_troubled)
@@ -57,7 +57,7 @@ fn take_turns<D: Disk + Drop, H: NodeHash, G: Gate>(
 {
     let mut turns = 0u64;
     for at in 0..members.len() {
-        turns = turns.saturating_add(take_turn_if_ready(engine, gate, members, at, room));
+        turns = turns.saturating_add(take_turn_if_ready(engine, gate, members, at, buffers));
     }
     turns
 }
@@ -68,7 +68,7 @@ fn take_turn_if_ready<D: Disk + Drop, H: NodeHash, G: Gate>(
     gate: &G,
     members: &mut [Member<G::R, G::W>],
     at: usize,
-    room: &mut Room,
+    buffers: &mut SwarmBuffers,
 ) -> u64
     requires within { at < length members.old }
     requires own_keys { HaveOwnKeys members.old }
@@ -79,7 +79,7 @@ fn take_turn_if_ready<D: Disk + Drop, H: NodeHash, G: Gate>(
     if !members[at].may_have_events && !gate.is_ready(members[at].place) {
         return 0;
     }
-    take_turn(engine, gate, members, at, room);
+    take_turn(engine, gate, members, at, buffers);
     1
 }
 
@@ -90,7 +90,7 @@ fn take_turn<D: Disk + Drop, H: NodeHash, G: Gate>(
     gate: &G,
     members: &mut [Member<G::R, G::W>],
     at: usize,
-    room: &mut Room,
+    buffers: &mut SwarmBuffers,
 )
     requires within { at < length members.old }
     requires own_keys { HaveOwnKeys members.old }
@@ -98,12 +98,12 @@ fn take_turn<D: Disk + Drop, H: NodeHash, G: Gate>(
         (OneFailed G.W.has_failed) G.R.remaining G.W.contents
         engine.old members.old engine.new members.new }
 {
-    let mut left = take_events(engine, gate, members, at, EVENTS, room);
+    let mut left = take_events(engine, gate, members, at, EVENTS, buffers);
     for read in 0..READS {
         if left == 0 {
             return;
         }
-        left = read_and_take(engine, gate, members, at, left, room);
+        left = read_and_take(engine, gate, members, at, left, buffers);
     }
 }
 
@@ -115,7 +115,7 @@ fn read_and_take<D: Disk + Drop, H: NodeHash, G: Gate>(
     members: &mut [Member<G::R, G::W>],
     at: usize,
     most: usize,
-    room: &mut Room,
+    buffers: &mut SwarmBuffers,
 ) -> usize
     requires within { at < length members.old }
     requires own_keys { HaveOwnKeys members.old }
@@ -123,10 +123,10 @@ fn read_and_take<D: Disk + Drop, H: NodeHash, G: Gate>(
         (OneFailed G.W.has_failed) G.R.remaining G.W.contents
         engine.old members.old engine.new members.new }
 {
-    if !receive::<D, H, G>(engine, members, at, room) {
+    if !receive::<D, H, G>(engine, members, at, buffers) {
         return 0;
     }
-    take_events(engine, gate, members, at, most, room)
+    take_events(engine, gate, members, at, most, buffers)
 }
 
 /// Feeds what a connection gives now: says whether something came.
@@ -134,7 +134,7 @@ fn receive<D: Disk + Drop, H: NodeHash, G: Gate>(
     engine: &mut Engine<D, H>,
     members: &mut [Member<G::R, G::W>],
     at: usize,
-    room: &mut Room,
+    buffers: &mut SwarmBuffers,
 ) -> bool
     requires within { at < length members.old }
     requires own_keys { HaveOwnKeys members.old }
@@ -145,11 +145,11 @@ fn receive<D: Disk + Drop, H: NodeHash, G: Gate>(
     if !takes_more::<G>(&members[at]) {
         return false;
     }
-    let count = read_of::<G>(&mut members[at], &mut room.incoming);
+    let count = read_of::<G>(&mut members[at], &mut buffers.incoming);
     if count == 0 {
         return false;
     }
-    match feed(engine, members[at].key, &room.incoming[..count]) {
+    match feed(engine, members[at].key, &buffers.incoming[..count]) {
         Ok(()) => {
             note_events::<G>(&mut members[at], true);
             true
@@ -169,7 +169,7 @@ fn take_events<D: Disk + Drop, H: NodeHash, G: Gate>(
     members: &mut [Member<G::R, G::W>],
     at: usize,
     most: usize,
-    room: &mut Room,
+    buffers: &mut SwarmBuffers,
 ) -> usize
     requires within { at < length members.old }
     requires own_keys { HaveOwnKeys members.old }
@@ -181,7 +181,7 @@ fn take_events<D: Disk + Drop, H: NodeHash, G: Gate>(
         if !members[at].may_have_events || !takes_more::<G>(&members[at]) {
             return most - taken;
         }
-        take_event_safely(engine, gate, members, at, room);
+        take_event_safely(engine, gate, members, at, buffers);
     }
     0
 }
@@ -192,7 +192,7 @@ fn take_event_safely<D: Disk + Drop, H: NodeHash, G: Gate>(
     gate: &G,
     members: &mut [Member<G::R, G::W>],
     at: usize,
-    room: &mut Room,
+    buffers: &mut SwarmBuffers,
 )
     requires within { at < length members.old }
     requires own_keys { HaveOwnKeys members.old }
@@ -200,7 +200,7 @@ fn take_event_safely<D: Disk + Drop, H: NodeHash, G: Gate>(
         (OneFailed G.W.has_failed) G.R.remaining G.W.contents
         engine.old members.old engine.new members.new }
 {
-    take_event::<D, H, G>(engine, members, at, room);
+    take_event::<D, H, G>(engine, members, at, buffers);
     if gate.has_trouble() {
         put_end::<G>(&mut members[at], SessionEnd::ReadFault);
     }
@@ -211,7 +211,7 @@ fn take_event<D: Disk + Drop, H: NodeHash, G: Gate>(
     engine: &mut Engine<D, H>,
     members: &mut [Member<G::R, G::W>],
     at: usize,
-    room: &mut Room,
+    buffers: &mut SwarmBuffers,
 )
     requires within { at < length members.old }
     requires own_keys { HaveOwnKeys members.old }
@@ -221,7 +221,7 @@ fn take_event<D: Disk + Drop, H: NodeHash, G: Gate>(
 {
     match next(engine, members[at].key) {
         Ok(Some(output)) => {
-            deliver::<G>(members, &output.send, room);
+            deliver::<G>(members, &output.send, buffers);
             match output.close {
                 Some(why) => {
                     put_end::<G>(&mut members[at], SessionEnd::Closed(why));
@@ -241,7 +241,7 @@ fn choose_if<D: Disk + Drop, H: NodeHash, G: Gate>(
     due: bool,
     engine: &mut Engine<D, H>,
     members: &mut [Member<G::R, G::W>],
-    room: &mut Room,
+    buffers: &mut SwarmBuffers,
 )
     ensures goes { GoesOn D.conduct H.digest (ReadFailed G.R.has_failed G.is_troubled)
         (OneFailed G.W.has_failed) G.R.remaining G.W.contents
@@ -251,7 +251,7 @@ fn choose_if<D: Disk + Drop, H: NodeHash, G: Gate>(
         return;
     }
     match rechoke(engine) {
-        Ok(output) => deliver::<G>(members, &output.send, room),
+        Ok(output) => deliver::<G>(members, &output.send, buffers),
         Err(_) => {}
     }
 }

@@ -56,6 +56,7 @@ pub use Rattle.bt_wire.specs.Cutter
 pub use Rattle.bt_wire.specs.Handshake
 pub use Rattle.bt_wire.specs.Message
 -- sessions and peers
+pub use Rattle.bt_session.specs.Flushing
 pub use Rattle.bt_session.specs.Ends
 pub use Rattle.bt_session.specs.Failures
 pub use Rattle.bt_session.specs.Progress

@@ -36,13 +36,11 @@ pub use bt_resume::{LogError, ResumeLog};
 // A session with one peer, over any reader and writer.
 pub use bt_engine::{ConnectError, Why};
 pub use bt_session::{
-    SessionEnd, WatchedReader, WatchedWriter, run_session, run_session_with_flushes,
+    Flushing, SessionEnd, WatchedReader, WatchedWriter, run_session, run_session_with_flushes,
 };
 
 // Peers that are dialled, one after the other.
-pub use bt_session::{
-    Link, PeerEnd, end_text, meet_peer, meet_peer_with_flushes, run_peers, run_peers_with_flushes,
-};
+pub use bt_session::{Link, PeerEnd, end_text, meet_peer, run_peers, run_peers_with_flushes};
 
 // Several peers at a time: the caller gives the engine each event, and sends what it answers.
 pub use bt_book::{BlockId, PeerKey};

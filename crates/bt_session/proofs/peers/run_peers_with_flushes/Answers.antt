@@ -7,7 +7,7 @@ use Rattle.bt_session.specs.declared.end.SessionEnd.TheVariants.{ReadFault, Writ
 use Rattle.bt_session.specs.declared.peer_end.PeerEnd.TheVariants.{Session}
 use Rattle.bt_session.specs.Failures.{OnlyAfterFailure, OneFailed}
 use Rattle.bt_session.proofs.Turns.{All-first, All-later, untried_later, went_on, all_tried, completed, refused, told_are_tried}
-use Rattle.bt_session.proofs.Unflushed.{not_cut}
+use Rattle.bt_session.proofs.Meetings.{not_cut}
 use Rattle.bt_session.proofs.peers.run_peers_with_flushes.Goals as goal
 
 pub try_peer-requires-clause-undialled : goal.try_peer-requires-clause-undialled
@@ -55,13 +55,13 @@ returns-in_err-try_peer-clause-told g c =
 pub returns-after-loop-i-clause-peers : goal.returns-after-loop-i-clause-peers
 returns-after-loop-i-clause-peers g c =
     told_are_tried (OneFailed g.L.R.WatchedReader.has_failed) g.D.Disk.conduct g.H.NodeHash.digest g.L.Link.dials g.L.Link.failures
-    g.L.Link.gives g.L.R.Read.remaining g.L.W.Write.contents c.args.flush_every c.args.turns
+    g.L.Link.gives g.L.R.Read.remaining g.L.W.Write.contents c.args.flushing c.args.turns
     (all_tried _ _ _ c.loop-i.i _ _ _ (omega arith) (omega arith) c.loop-i.invariant.leads)
 
 pub returns-then-is_complete-clause-peers : goal.returns-then-is_complete-clause-peers
 returns-then-is_complete-clause-peers g c =
     told_are_tried (OneFailed g.L.R.WatchedReader.has_failed) g.D.Disk.conduct g.H.NodeHash.digest g.L.Link.dials g.L.Link.failures
-    g.L.Link.gives g.L.R.Read.remaining g.L.W.Write.contents c.args.flush_every c.args.turns
+    g.L.Link.gives g.L.R.Read.remaining g.L.W.Write.contents c.args.flushing c.args.turns
     (rw set-get_or (completed _ _ _ c.loop-i.i _ c.loop-i.links c.loop-i.ends (sym c.is_complete.ensures ∙ c.if-is_complete.true) c.loop-i.invariant.untried
     c.loop-i.invariant.leads))
 
@@ -70,7 +70,7 @@ returns-in_err-try_peer-clause-peers g c =
     let p = err_from_is_err_and c.from_residual.result c.from_residual.ensures.1 in
     rw (p.1, p.2)
     (told_are_tried (OneFailed g.L.R.WatchedReader.has_failed) g.D.Disk.conduct g.H.NodeHash.digest g.L.Link.dials g.L.Link.failures
-    g.L.Link.gives g.L.R.Read.remaining g.L.W.Write.contents c.args.flush_every c.args.turns
+    g.L.Link.gives g.L.R.Read.remaining g.L.W.Write.contents c.args.flushing c.args.turns
     (refused _ _ _ c.loop-i.i _ _ c.loop-i.links c.loop-i.ends c.index-links-i.result _ _ _ (omega arith) (omega arith)
     (sym c.is_complete.ensures ∙ c.if-is_complete.false) c.in_err-try_peer.ensures.tried c.loop-i.invariant.untried c.loop-i.invariant.leads))
 

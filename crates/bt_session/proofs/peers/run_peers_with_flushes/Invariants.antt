@@ -16,7 +16,7 @@ invariant-loop-i g l = record {
   untried : drop l.i l.ends ≡ replicate (length (drop l.i l.links)) Untried;
   leads : LeadsOn
       (IsTriedAndTold (OneFailed g.L.R.WatchedReader.has_failed) g.D.Disk.conduct g.H.NodeHash.digest g.L.Link.dials g.L.Link.failures
-      g.L.Link.gives g.L.R.Read.remaining g.L.W.Write.contents l.flush_every l.turns)
+      g.L.Link.gives g.L.R.Read.remaining g.L.W.Write.contents l.flushing l.turns)
       l.initial.engine l.initial.links l.engine (drop l.i l.links) (take l.i l.ends) (take l.i l.links);
   read : All (OnlyAfterFailure (Session ReadFault) (OneFailed g.L.R.WatchedReader.has_failed)) l.ends;
   written : All (OnlyAfterFailure (Session WriteFault) (OneFailed g.L.W.WatchedWriter.has_failed)) l.ends;

@@ -9,7 +9,7 @@ returns-clause-tried g c = record {
       failed = c.dial-reached.ensures.failed;
       given = c.dial-reached.ensures.given;
     };
-    ended = c.meet_peer_with_flushes-met.ensures.ended;
+    ended = c.meet_peer-met.ensures.ended;
   };
-  read_fault = c.meet_peer_with_flushes-met.ensures.read_fault;
+  read_fault = c.meet_peer-met.ensures.read_fault;
 }

@@ -31,22 +31,22 @@ returns-in_err-key-clause-unwritten g c = let p = err_from_is_err_and c.from_res
 pub returns-clause-session : goal.returns-clause-session
 returns-clause-session g c = record {
   key = _;
-  engine = c.serve-end.new.engine;
-  ended = c.serve-end.ensures.ends c.args.engine.now c.in_ok-key.ensures.step;
+  engine = c.converse-end.new.engine;
+  ended = c.converse-end.ensures.ends c.args.engine.now c.in_ok-key.ensures.step;
   removed = c.remove.result;
   removal = c.remove.ensures.step;
 }
 
 pub returns-clause-stands : goal.returns-clause-stands
 returns-clause-stands g c =
-    c.sessions_stand.ensures c.args.until_complete c.args.flush_every c.args.turns
+    c.sessions_stand.ensures c.args.until_complete c.args.flushing c.args.turns
     (place c.args.engine.now (g.R.Read.remaining c.args.reader.now) (g.W.Write.contents c.args.writer.now))
-    (place c.remove.new.engine (g.R.Read.remaining c.serve-end.new.reader) (g.W.Write.contents c.serve-end.new.writer))
-    c.serve-end.result c.keeps_laws.ensures.sound
+    (place c.remove.new.engine (g.R.Read.remaining c.converse-end.new.reader) (g.W.Write.contents c.converse-end.new.writer))
+    c.converse-end.result c.keeps_laws.ensures.sound
     (record {
       key = _;
-      engine = c.serve-end.new.engine;
-      ended = c.serve-end.ensures.ends c.args.engine.now c.in_ok-key.ensures.step;
+      engine = c.converse-end.new.engine;
+      ended = c.converse-end.ensures.ends c.args.engine.now c.in_ok-key.ensures.step;
       removed = c.remove.result;
       removal = c.remove.ensures.step;
     })

@@ -9,10 +9,10 @@ abbrev pub invariant-loop-taken : goal.invariant-loop-taken
 invariant-loop-taken g l = record {
   alone : IsAlone l.partner.key l.engine.state;
   goes : (first : Place g.row.D.Denot)
-      → GoesOn g.D.Disk.conduct g.H.NodeHash.digest l.partner.key l.partner.until_complete l.partner.flush_every
+      → GoesOn g.D.Disk.conduct g.H.NodeHash.digest l.partner.key l.partner.until_complete l.partner.flushing
       (IsBetweenTurns l.partner.until_complete) first 0
       (place l.initial.engine (g.R.Read.remaining l.initial.reader) (g.W.Write.contents l.initial.writer))
-      → GoesOn g.D.Disk.conduct g.H.NodeHash.digest l.partner.key l.partner.until_complete l.partner.flush_every
+      → GoesOn g.D.Disk.conduct g.H.NodeHash.digest l.partner.key l.partner.until_complete l.partner.flushing
       (IsBetweenTurns l.partner.until_complete) first l.taken (place l.engine (g.R.Read.remaining l.reader) (g.W.Write.contents l.writer));
   flushed : g.W.WatchedWriter.is_flushed l.initial.writer → g.W.WatchedWriter.is_flushed l.writer;
 }

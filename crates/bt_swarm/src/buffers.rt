@@ -1,20 +1,20 @@
-//! The buffers of a swarm.
+//! The buffers of a swarm: one for what is read of a connection at a time, and a list of bytes for what it is sent.
 use std::alloc::Global;
 
 /// How many bytes a reader is asked for.
 pub(crate) const READ_LENGTH: usize = 16_384;
 
-/// What is read of one connection at a time, and what is sent to one by an event.
+/// What a swarm reads into, and spells frames into, of one connection after the other.
 #[derive(Drop)]
-pub(crate) struct Room {
+pub(crate) struct SwarmBuffers {
     pub(crate) alloc: Global,
     pub(crate) incoming: [u8; READ_LENGTH],
     pub(crate) outgoing: Vec<u8>,
 }
 
-impl Room {
+impl SwarmBuffers {
     pub(crate) fn new(alloc: Global) -> Self {
-        Room {
+        SwarmBuffers {
             alloc,
             incoming: [0; READ_LENGTH],
             outgoing: Vec::new(alloc),

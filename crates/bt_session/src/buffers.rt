@@ -2,19 +2,19 @@
 use crate::incoming::Incoming;
 use std::alloc::{AllocError, Global};
 
-/// The room that a session keeps for what it reads and for what it writes.
+/// What a session reads into, and spells frames into.
 #[derive(Drop)]
-pub(crate) struct Room {
+pub(crate) struct SessionBuffers {
     pub(crate) alloc: Global,
     pub(crate) incoming: Incoming,
     pub(crate) outgoing: Vec<u8>,
 }
 
-impl Room {
+impl SessionBuffers {
     /// Errors: out of memory.
     pub(crate) fn new(alloc: Global) -> Result<Self, AllocError> {
         let incoming = Incoming::new(alloc)?;
-        Ok(Room {
+        Ok(SessionBuffers {
             alloc,
             incoming,
             outgoing: Vec::new(alloc),

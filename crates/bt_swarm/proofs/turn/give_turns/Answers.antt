@@ -1,7 +1,7 @@
 use Rattle.bt_session.specs.Failures.{OneFailed}
 use Rattle.bt_swarm.specs.Causes.{ReadFailed}
 use Rattle.bt_swarm.proofs.Moving.{goes_trans, goes_faulty}
-use Rattle.bt_swarm.proofs.turn.serve.Goals as goal
+use Rattle.bt_swarm.proofs.turn.give_turns.Goals as goal
 
 pub returns : goal.returns
 returns g c = record {
