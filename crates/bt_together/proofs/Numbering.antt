@@ -1,5 +1,5 @@
 -- The numbers of those that come and go at once are of those that came, and none is there twice.
-use Rattle.std.proofs.Common.{[], ◌≡◌, ℕ, ◌+◌, ◌-◌, ◌≤◌, ◌==◌, zero, suc, Bool, true, false, List, ◌∷◌, ◌++◌, get_or, set, replicate, refl, sym, ◌∙◌, subst, arith, add-zero}
+use Rattle.std.proofs.Common.{[], ◌≡◌, ℕ, ◌+◌, ◌-◌, ◌≤◌, ◌==◌, zero, suc, Bool, true, false, List, ◌∷◌, ◌++◌, get_or, set, replicate, refl, ◌∙◌, subst, arith, add-zero}
 use Rattle.std.specs.List.{count_by}
 use Rattle.std.specs.Prelude.{All, if◌then◌else◌}
 use Rattle.std.proofs.lemmas.Bool.{eqb-true}

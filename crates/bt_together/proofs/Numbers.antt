@@ -1,10 +1,10 @@
 -- Lemmas on the numbers of those that come and go at once.
-use Rattle.std.proofs.Common.{[], ◌≡◌, ℕ, ◌+◌, ◌==◌, zero, suc, Bool, true, false, List, ◌∷◌, ◌++◌, length, get_or, refl, sym, ◌∙◌, arith}
+use Rattle.std.proofs.Common.{[], ◌≡◌, ℕ, ◌+◌, ◌==◌, zero, suc, Bool, true, false, List, ◌∷◌, length, get_or, refl, arith}
 use Rattle.std.specs.Prelude.{◌||◌}
 use Rattle.std.proofs.lemmas.List.{length-append}
 use Rattle.bt_session.specs.declared.end.SessionEnd.{SessionEnd}
 use Rattle.bt_swarm.specs.Passing.{Passing, came, went, came_count, went_count}
-use Rattle.bt_together.specs.Seating.{gone_in, nobody, numbered, seat, seated}
+use Rattle.bt_together.specs.Seating.{gone_in, numbered, seat, seated}
 use Rattle.bt_together.specs.declared.seating.Seating.{Seating}
 
 -- of two that are not so neither is

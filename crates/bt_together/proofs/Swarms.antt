@@ -1,12 +1,11 @@
 -- Lemmas on the events of a swarm, and on what ends it.
-use Rattle.std.proofs.Common.{[], ◌≡◌, inl, inr, ℕ, false, List, ◌∷◌, length, Result, Ok, Err, refl, sym, subst, ap, ◌∙◌, arith}
+use Rattle.std.proofs.Common.{[], ◌≡◌, inl, inr, ℕ, false, List, Result, Ok, Err, sym, subst, ap, ◌∙◌, arith}
 use Rattle.std.specs.Prelude.{⊤, Option, Contains, OnOk}
 use Rattle.std.specs.Io.KnownBytes.{Appends}
 use Rattle.std.proofs.lemmas.List.Elements.{All-nil, Contains-push_cases}
 use Rattle.bt_disk.specs.Conduct.{Conduct}
 use Rattle.bt_check.specs.declared.fault.Fault.{Fault}
 use Rattle.bt_files.specs.Ending.{IsEndFault}
-use Rattle.bt_files.specs.OpenFolder.{IsCallFault}
 use Rattle.bt_files.specs.Store.{IsFlushFault, flush_fault}
 use Rattle.bt_files.proofs.Unlogged.{flush_fails, flush_fault_before}
 use Rattle.bt_files.proofs.Faults.{call_ends}

@@ -14,7 +14,6 @@ use Rattle.bt_machine.specs.State.{EngineView}
 use Rattle.bt_machine.specs.View.{StepsTo}
 use Rattle.bt_engine.specs.Leads.{LeadsTo}
 use Rattle.bt_session.specs.declared.end.SessionEnd.{SessionEnd}
-use Rattle.bt_session.specs.declared.peer_end.PeerEnd.{PeerEnd}
 use Rattle.bt_swarm.specs.Passing.{Passing}
 use Rattle.bt_swarm.specs.Steps.{MayBeFlushed}
 use Rattle.bt_swarm.specs.Swarm.{HasSwarmed, IsOver}

@@ -1,4 +1,4 @@
-//! What comes behind a swarm.
+//! What comes behind a swarm: a flush.
 ghost use Rattle.std.specs.Prelude.{◌≡◌, Ok, Err, IfErr, OnOk};
 ghost use Rattle.bt_files.specs.Ending.{IsEndFault};
 ghost use Rattle.bt_files.specs.OpenFolder.{IsCallFault};
@@ -15,8 +15,8 @@ use bt_engine::Engine;
 use bt_files::finish;
 use bt_tree::NodeHash;
 
-/// Has all put on the devices, and into the log; then says what came before. Errors: the flush is refused, or what came
-/// before was a fault.
+/// Flushes an engine, and then gives `before`, which tells how the swarm went. Errors: the flush is refused; the
+/// swarm ended with a fault.
 pub(crate) fn sync_behind<D: Disk + Drop, H: NodeHash>(
     engine: &mut Engine<D, H>,
     before: Result<(), Fault>,

@@ -11,14 +11,15 @@ use bt_check::Fault;
 use bt_disk::Disk;
 use bt_engine::Engine;
 use bt_files::{adopt_waiting, finish, flush_fault};
+use bt_session::Flushing;
 use bt_swarm::{Gate, run_swarm};
 use bt_tree::NodeHash;
 use std::alloc::Global;
 
 /// Fetches from all connections of a gate at once, 64 at most, until all files are complete, or nobody is there and nobody
-/// is to come. With `flush_every` above 0 all is put on the devices, and into the log, after so many turns of all together,
-/// and behind the last. Then what came without hashes is taken in. Says whether blocks are missing still though some came
-/// so: the peers may be dialled once more then, since none was asked for a block while it waited for its hash.
+/// is to come. All is put on the devices, and into the log, after so many turns of all together, and behind the last; or
+/// never. Then what came without hashes is taken in. Says whether blocks are missing still though some came so: the peers
+/// may be dialled once more then, since none was asked for a block while it waited for its hash.
 ///
 /// Errors: a flush is refused, and then all go at once; a file can't be read, and then what was taken in before is put on
 /// the devices all the same; out of memory.
@@ -26,7 +27,7 @@ pub fn fetch_at_once<D: Disk + Drop, H: NodeHash, G: Gate>(
     alloc: Global,
     engine: &mut Engine<D, H>,
     gate: &mut G,
-    flush_every: u64,
+    flushing: Flushing,
 ) -> Result<bool, Fault>
     requires no_peer { engine.old.state.peers ≡ [] }
     requires unwaited { G.waits gate.old ≡ 0 }
@@ -39,13 +40,14 @@ pub fn fetch_at_once<D: Disk + Drop, H: NodeHash, G: Gate>(
     ensures run { LeadsTo D.conduct H.digest engine.old engine.new }
     ensures fault { IfErr result (IsEndFault engine.old.log) }
 {
-    if let Err(error) = run_swarm(alloc, engine, gate, true, flush_every) {
+    if let Err(error) = run_swarm(alloc, engine, gate, true, flushing) {
         return Err(flush_fault(error));
     }
     take_in(engine)
 }
 
-/// Takes in what came without hashes. Says whether blocks are missing still though some came so.
+/// Takes in what came without hashes. Gives whether blocks are missing still though some came so. Errors: a read
+/// failed, or out of memory; what was taken in before is flushed all the same.
 fn take_in<D: Disk + Drop, H: NodeHash>(engine: &mut Engine<D, H>) -> Result<bool, Fault>
     requires no_peer { engine.old.state.peers ≡ [] }
     ensures taken_in { OnOk result (TakesInAllWaiting D.conduct H.digest engine.old engine.new) }
@@ -65,7 +67,7 @@ fn take_in<D: Disk + Drop, H: NodeHash>(engine: &mut Engine<D, H>) -> Result<boo
     }
 }
 
-/// Whether a block of a file waits for its hash.
+/// Whether a block of any file waits for its hash.
 fn has_waiting<D: Disk + Drop, H: NodeHash>(engine: &Engine<D, H>) -> bool {
     let count = engine.torrent().files().len() as u32;
     for file in 0..count {
@@ -78,7 +80,7 @@ fn has_waiting<D: Disk + Drop, H: NodeHash>(engine: &Engine<D, H>) -> bool {
     false
 }
 
-/// Whether a block of a file is missing.
+/// Whether a block of any file is missing.
 fn has_missing<D: Disk + Drop, H: NodeHash>(engine: &Engine<D, H>) -> bool {
     let count = engine.torrent().files().len() as u32;
     for file in 0..count {

@@ -1,5 +1,6 @@
-//! What `seed` and `fetch` do with many connections at once, over any gate: those that are served are numbered, and each
-//! has its line as it goes; from all peers that are dialled is fetched, and what came without its hashes is taken in.
+//! What `seed` and `fetch` do with many connections at once, over any gate. Connections that are served are numbered,
+//! and the line of each is written as it goes. Of all peers that are dialled blocks are fetched, and what came
+//! without its hashes is taken in.
 #![tactic(auto)]
 
 mod ending;

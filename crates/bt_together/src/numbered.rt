@@ -13,8 +13,9 @@ use bt_swarm::{Due, Gate, SessionEnd};
 use std::alloc::Global;
 use std::io::Write;
 
-/// A gate that numbers the connections of another as they come, `most` in all, and writes a line as each goes. Where one
-/// can't be written, nobody new is taken, and who is there is served on.
+/// A gate over another one. It numbers the connections of that gate as they come, `most` in all, and writes the line
+/// of each as it goes. Once a line can't be written, it takes no new connection, and those that are there are served
+/// on.
 #[derive(Drop)]
 pub(crate) struct NumberedGate<'g, G, W> {
     alloc: Global,
@@ -22,12 +23,12 @@ pub(crate) struct NumberedGate<'g, G, W> {
     writer: &'g mut W,
     most: u64,
     seating: Seating,
-    /// Whether each line was written, or why one was not.
+    /// Ok where all lines so far were written, else why one was not.
     written: Result<(), Fault>,
 }
 
 impl<'g, G: Gate, W: Write> NumberedGate<'g, G, W> {
-    /// A gate by which nobody has come yet.
+    /// A gate over `inner` by which nobody has come yet.
     pub(crate) fn new(alloc: Global, inner: &'g mut G, most: u64, writer: &'g mut W) -> Self
         ensures inner { result.inner.ghost_name ≡ inner.entry.ghost_name }
         ensures same_gate { result.inner.now ≡ inner.old }
@@ -47,7 +48,8 @@ impl<'g, G: Gate, W: Write> NumberedGate<'g, G, W> {
         }
     }
 
-    /// Whether all came, and those who went were there. Errors: why a line could not be written; not all could be taken.
+    /// How it went, once the swarm is over. Errors: why a line could not be written; `Device` where fewer than `most`
+    /// came, or one went that was not there.
     pub(crate) fn outcome(&self) -> Result<(), Fault>
         ensures written { OnOk result (self.now.written ≡ Ok tt) }
         ensures came { OnOk result (self.now.seating.came ≡ self.now.most) }

@@ -10,8 +10,8 @@ use bt_words::Peer;
 use std::alloc::{AllocError, Global};
 use std::io::Write;
 
-/// Writes the line of a peer, if it was tried: where it is reached, and how it ended with it. But none is written where
-/// one before it could not be: then that is told again.
+/// Writes the line of a peer, if it was tried: its host and port, and how it ended. `before` tells how that went for
+/// the lines before. Where one of these could not be written, nothing is, and its fault is given again.
 pub fn tell_peer<W: Write>(
     alloc: Global,
     before: Result<(), Fault>,
@@ -29,7 +29,7 @@ pub fn tell_peer<W: Write>(
     write_peer(alloc, peer, end, writer)
 }
 
-/// Writes the line of a peer, if it was tried.
+/// Writes the line of a peer, if it was tried. Errors: the writer failed, or out of memory.
 fn write_peer<W: Write>(
     alloc: Global,
     peer: &Peer<'_>,
@@ -74,14 +74,16 @@ fn is_tried(end: PeerEnd) -> bool
     }
 }
 
-/// Adds the line of a peer. Its host may be a stranger's word, so it is printed as a name is.
+/// Adds the line of a peer to a text. Its host may be a stranger's word, so it is printed as a name is. Errors: out
+/// of memory.
 fn push_line(
     alloc: Global,
     line: &mut String,
     peer: &Peer<'_>,
     end: PeerEnd,
 ) -> Result<(), AllocError>
-    ensures { OnOk result (string_bytes line.new ≡ string_bytes line.old ++ peer_line peer.now end) }
+    ensures { OnOk result (string_bytes line.new ≡ string_bytes line.old
+        ++ peer_line peer.now end) }
 {
     use std::fmt::Write;
     let Peer { host, port } = *peer;

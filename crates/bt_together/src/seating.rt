@@ -1,26 +1,27 @@
-//! Who is where among those that are served at once.
+//! Which connection is at which place, of those that are served at once.
 ghost use Rattle.std.specs.Prelude.{[], ◌≡◌, ◌-◌, ◌<◌, ◌^◌, slice_index_or, slice_set};
 ghost use Rattle.bt_swarm.specs.Passing.{came, went};
 ghost use Rattle.bt_together.specs.Seating.{nobody, seat};
 
 use bt_session::SessionEnd;
 
-/// How many may be there at once.
+/// How many connections may be there at once.
 const PLACES: usize = 64;
 
-/// Who is where among those that are served at once. They are numbered from 1 on, as they come.
+/// Which connection is at which place, of those that are served at once. Connections are numbered from 1 on, as they
+/// come.
 #[derive(Clone, Copy, Debug, PartialEq, Eq)]
 pub struct Seating {
-    /// At each place the number of the one that is there: 0 where nobody is.
+    /// For each place the number of the connection that is there, or 0 where none is.
     pub numbers: [u64; 64],
-    /// How many have come.
+    /// How many connections have come.
     pub came: u64,
-    /// Whether one went who was not there.
+    /// Whether a connection went that was not there.
     pub strays: bool,
 }
 
 impl Seating {
-    /// Nobody has come yet.
+    /// No connection has come yet.
     pub(crate) fn new() -> Self
         ensures { result ≡ nobody }
     {
@@ -31,7 +32,7 @@ impl Seating {
         }
     }
 
-    /// One comes to a place.
+    /// A connection comes to a place, and gets the next number.
     pub(crate) fn come(&mut self, place: usize)
         requires few { self.old.came < 2 ^ 64 - 1 }
         ensures { self.new ≡ seat self.old (came place) }
@@ -41,7 +42,7 @@ impl Seating {
         self.put(place, number);
     }
 
-    /// The one at a place goes: gives its number, 0 where nobody is there.
+    /// The connection at a place goes. Gives its number, or 0 where none is there.
     pub(crate) fn leave(&mut self, place: usize, end: SessionEnd) -> u64
         ensures number { result ≡ slice_index_or self.old.numbers place 0 }
         ensures seated { self.new ≡ seat self.old (went place end) }
@@ -52,7 +53,7 @@ impl Seating {
         number
     }
 
-    /// The number of the one at a place: 0 where nobody is there, and where there is no such place.
+    /// The number of the connection at a place, or 0 where none is there or there is no such place.
     #[tactic(auto, using(std::proofs::lemmas::List::get_or_past))]
     fn number_at(&self, place: usize) -> u64
         ensures { result ≡ slice_index_or self.now.numbers place 0 }
@@ -64,7 +65,7 @@ impl Seating {
         }
     }
 
-    /// Puts a number to a place, if there is such a place.
+    /// Notes the number of the connection at a place, if there is such a place.
     #[tactic(auto, using(std::proofs::lemmas::List::set_past))]
     fn put(&mut self, place: usize, number: u64)
         ensures numbers { self.new.numbers ≡ slice_set self.old.numbers place number }

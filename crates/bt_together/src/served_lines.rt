@@ -9,7 +9,7 @@ use bt_session::{PeerEnd, SessionEnd, end_text};
 use std::alloc::{AllocError, Global};
 use std::io::Write;
 
-/// Writes the line of the connection of a number, and how it ended. Errors: the writer failed, or out of memory.
+/// Writes the line of a connection: its number, and how it ended. Errors: the writer failed, or out of memory.
 pub fn tell_served<W: Write>(
     alloc: Global,
     number: u64,
@@ -25,17 +25,18 @@ pub fn tell_served<W: Write>(
     print(writer, line.as_str())
 }
 
-/// Adds the line of a connection.
+/// Adds the line of a connection to a text. Errors: out of memory.
 fn push_line(line: &mut String, number: u64, end: PeerEnd) -> Result<(), AllocError>
-    ensures { OnOk result (string_bytes line.new ≡ string_bytes line.old ++ served_line number end) }
+    ensures { OnOk result (string_bytes line.new ≡ string_bytes line.old
+        ++ served_line number end) }
 {
     use std::fmt::Write;
     let end = end_text(end);
     writeln!(line, "served {number} {end}")
 }
 
-/// Writes the line of one that goes, where it has a number: 0 is none. But none is written where one before it could not
-/// be: then that is told again.
+/// Writes the line of a connection that goes, where it has a number: 0 is none. `before` tells how that went for the
+/// lines before. Where one of these could not be written, nothing is, and its fault is given again.
 pub(crate) fn tell_gone<W: Write>(
     alloc: Global,
     before: Result<(), Fault>,

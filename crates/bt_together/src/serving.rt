@@ -10,14 +10,15 @@ use bt_check::Fault;
 use bt_disk::Disk;
 use bt_engine::Engine;
 use bt_files::flush_fault;
+use bt_session::Flushing;
 use bt_swarm::{Gate, run_swarm};
 use bt_tree::NodeHash;
 use std::alloc::Global;
 use std::io::Write;
 
 /// Serves `count` connections of a gate, as many at once as come, 64 at most, and writes as each goes how it ended with
-/// it. With `flush_every` above 0 all is put on the devices, and into the log, after so many turns of all together; at
-/// the end it is always. Where a line can't be written, nobody new is taken, and who is there is served.
+/// it. All is put on the devices, and into the log, after so many turns of all together, or never on the way; at the end
+/// it is always. Where a line can't be written, nobody new is taken, and who is there is served.
 ///
 /// Errors: a flush is refused, and then all go at once; a line could not be written; fewer could be taken; out of memory.
 pub fn serve_together<D: Disk + Drop, H: NodeHash, G: Gate, W: Write>(
@@ -25,7 +26,7 @@ pub fn serve_together<D: Disk + Drop, H: NodeHash, G: Gate, W: Write>(
     engine: &mut Engine<D, H>,
     gate: &mut G,
     count: u64,
-    flush_every: u64,
+    flushing: Flushing,
     writer: &mut W,
 ) -> Result<(), Fault>
     requires no_peer { engine.old.state.peers ≡ [] }
@@ -37,7 +38,7 @@ pub fn serve_together<D: Disk + Drop, H: NodeHash, G: Gate, W: Write>(
     ensures fault { IfErr result (IsEndFault engine.old.log) }
 {
     let mut numbered = NumberedGate::new(alloc, gate, count, writer);
-    if let Err(error) = run_swarm(alloc, engine, &mut numbered, false, flush_every) {
+    if let Err(error) = run_swarm(alloc, engine, &mut numbered, false, flushing) {
         return Err(flush_fault(error));
     }
     let told = numbered.outcome();

@@ -16,17 +16,17 @@ use Rattle.bt_transfer.specs.Fetch.{Fetches, HasFetchedOverTcp}
 use Rattle.bt_transfer.specs.FetchTogether.{HasFetchedTogether}
 use Rattle.bt_words.specs.declared.peer.Peer.{Peer}
 
-module _ {D : Type 0} (conduct : Conduct D) (dig : List ℕ → List ℕ) where
-  answered : (old mid new : EngineView D) (fault : Fault) (answer : Result (Unit {0}) FlushError) → LeadsTo conduct dig old mid
+module _ {D : Type 0} {conduct : Conduct D} {dig : List ℕ → List ℕ} where
+  answered : {old mid new : EngineView D} (fault : Fault) (answer : Result (Unit {0}) FlushError) → LeadsTo conduct dig old mid
       → StepsTo conduct dig mid Flush (Flushed answer) new → IsToldWith answer fault → FailsAtOnce conduct dig old fault
-  answered old mid new fault (Ok done) led step told = inl told
-  answered old mid new fault (Err error) led step told =
+  answered fault (Ok done) led step told = inl told
+  answered {mid = mid} {new = new} fault (Err error) led step told =
       inr (record { mid = mid; led = led; error = error; last = new; refused = step; told = told })
 
   -- with the last flush, behind events that led on
-  pub concluding_fails : (old mid new : EngineView D) (fault : Fault) → LeadsTo conduct dig old mid → FailsWithFlush conduct dig mid fault new
+  pub concluding_fails : {old mid new : EngineView D} (fault : Fault) → LeadsTo conduct dig old mid → FailsWithFlush conduct dig mid fault new
       → FailsAtOnce conduct dig old fault
-  concluding_fails old mid new fault led fails = answered old mid new fault fails.answer led fails.flushed fails.told
+  concluding_fails fault led fails = answered fault fails.answer led fails.flushed fails.told
 
 -- what is said of a fetch of one kind is said of one that is of that kind
 module _ {D : Type 0} (conduct : Conduct D) (dig : List ℕ → List ℕ) (peers : List Peer) (log : Option (Bor (List ℕ))) (old new : EngineView D)

@@ -33,30 +33,30 @@ module _ {D : Type 0} (conduct : Conduct D) (dig : List ℕ → List ℕ) where
       record { mid = mid; met = subst (λ r. IfOk r (λ e. MeetsOverTcp conduct dig old e mid)) same served; synced = synced }
   met_and_synced old mid new met (Err fault) served synced same = tt
 
+-- why serving fails
+module _ {D : Type 0} {conduct : Conduct D} {dig : List ℕ → List ℕ} where
   -- by the flush
-  pub fails_by_flush : (old mid new : EngineView D) (fault : Fault) → LeadsTo conduct dig old mid
+  pub fails_by_flush : {old mid new : EngineView D} {fault : Fault} → LeadsTo conduct dig old mid
       → (error : FlushError) × (fault ≡ flush_fault error) × StepsTo conduct dig mid Flush (Flushed (Err error)) new
       → FailsToServe conduct dig old fault new
-  fails_by_flush old mid new fault led refused =
+  fails_by_flush {mid = mid} led refused =
       record { mid = mid; led = led; ended = record { answer = Err refused.0; flushed = refused.2; told = refused.1 } }
 
   -- by a call, where the flush was made
-  pub fails_by_call : (old mid new : EngineView D) (fault : Fault) → LeadsTo conduct dig old mid → StepsTo conduct dig mid Flush (Flushed (Ok tt)) new
+  pub fails_by_call : {old mid new : EngineView D} {fault : Fault} → LeadsTo conduct dig old mid → StepsTo conduct dig mid Flush (Flushed (Ok tt)) new
       → IsCallFault fault → FailsToServe conduct dig old fault new
-  fails_by_call old mid new fault led synced call =
-      record { mid = mid; led = led; ended = record { answer = Ok tt; flushed = synced; told = call } }
+  fails_by_call {mid = mid} led synced call = record { mid = mid; led = led; ended = record { answer = Ok tt; flushed = synced; told = call } }
 
   -- behind events that came before
-  pub fails_later : (old first new : EngineView D) (fault : Fault) → LeadsTo conduct dig old first
+  pub fails_later : {old first new : EngineView D} {fault : Fault} → LeadsTo conduct dig old first
       → FailsToServe conduct dig first fault new → FailsToServe conduct dig old fault new
-  fails_later old first new fault before fails =
-      record { mid = fails.mid; led = both old first fails.mid before fails.led; ended = fails.ended }
+  fails_later {old} {first} before fails = record { mid = fails.mid; led = both old first fails.mid before fails.led; ended = fails.ended }
 
   -- by a full log
-  pub full_seed : (old new : EngineView D) (fault : Fault) → FailsToSeed conduct dig old fault new → fault ≡ log_full → FindsLogFull conduct dig old
-  full_seed old new fault (inl unserved) full = absurd (call_not_full fault unserved.1 full)
-  full_seed old new fault (inr (inl fails)) full = flush_full conduct dig old fails.mid new fault fails.led fails.ended full
-  full_seed old new fault (inr (inr fails)) full = full_at_once conduct dig old fault fails full
+  pub full_seed : {old new : EngineView D} (fault : Fault) → FailsToSeed conduct dig old fault new → fault ≡ log_full → FindsLogFull conduct dig old
+  full_seed fault (inl unserved) full = absurd (call_not_full fault unserved.1 full)
+  full_seed fault (inr (inl fails)) full = flush_full fails.led fails.ended full
+  full_seed fault (inr (inr fails)) full = full_at_once fault fails full
 
 -- why the line of a connection is not written: none was taken, which a device tells, or a call failed
 pub not_told : (met told : Result PeerEnd Fault) → IfErr met (λ fault. fault ≡ device)

@@ -20,34 +20,33 @@ use Rattle.bt_together.specs.Together.{FailsAtOnce}
 use Rattle.bt_transfer.specs.FullLog.{FindsLogFull, HasFilledLog}
 use Rattle.bt_transfer.proofs.EndFaults.{call_not_full}
 
-module _ {D : Type 0} (conduct : Conduct D) (dig : List ℕ → List ℕ) where
-  answered_full : (mid new : EngineView D) (answer : Result (Unit {0}) FlushError) (fault : Fault) → StepsTo conduct dig mid Flush (Flushed answer) new
+module _ {D : Type 0} {conduct : Conduct D} {dig : List ℕ → List ℕ} where
+  answered_full : {mid new : EngineView D} (answer : Result (Unit {0}) FlushError) (fault : Fault) → StepsTo conduct dig mid Flush (Flushed answer) new
       → IsToldWith answer fault → fault ≡ log_full → StepsTo conduct dig mid Flush (Flushed (Err LogFull)) new
-  answered_full mid new (Ok done) fault step told full = absurd (call_not_full fault told full)
-  answered_full mid new (Err LogFull) fault step told full = step
-  answered_full mid new (Err Device) fault step told full = absurd (call_not_full fault (inl told) full)
+  answered_full (Ok done) fault step told full = absurd (call_not_full fault told full)
+  answered_full (Err LogFull) fault step told full = step
+  answered_full (Err Device) fault step told full = absurd (call_not_full fault (inl told) full)
 
   -- by the last flush, behind events that led on
-  pub flush_full : (old mid new : EngineView D) (fault : Fault) → LeadsTo conduct dig old mid → FailsWithFlush conduct dig mid fault new
+  pub flush_full : {old mid new : EngineView D} {fault : Fault} → LeadsTo conduct dig old mid → FailsWithFlush conduct dig mid fault new
       → fault ≡ log_full → FindsLogFull conduct dig old
-  flush_full old mid new fault led fails full =
-      record { mid = mid; led = led; last = new; full = answered_full mid new fails.answer fault fails.flushed fails.told full }
+  flush_full {mid = mid} {new = new} {fault = fault} led fails full =
+      record { mid = mid; led = led; last = new; full = answered_full fails.answer fault fails.flushed fails.told full }
 
   -- by one that was refused so
-  pub refused_full : (old mid new : EngineView D) (error : FlushError) (fault : Fault) → LeadsTo conduct dig old mid
+  pub refused_full : {old mid new : EngineView D} {error : FlushError} {fault : Fault} → LeadsTo conduct dig old mid
       → StepsTo conduct dig mid Flush (Flushed (Err error)) new → fault ≡ flush_fault error → fault ≡ log_full → FindsLogFull conduct dig old
-  refused_full old mid new error fault led step told full =
-      record { mid = mid; led = led; last = new; full = answered_full mid new (Err error) fault step told full }
+  refused_full {mid = mid} {new = new} {error = error} {fault = fault} led step told full =
+      record { mid = mid; led = led; last = new; full = answered_full (Err error) fault step told full }
 
   -- by one of many connections at once
-  pub full_at_once : (old : EngineView D) (fault : Fault) → FailsAtOnce conduct dig old fault → fault ≡ log_full → FindsLogFull conduct dig old
-  full_at_once old fault (inl call) full = absurd (call_not_full fault call full)
-  full_at_once old fault (inr refused) full =
-      refused_full old refused.mid refused.last refused.error fault refused.led refused.refused refused.told full
+  pub full_at_once : {old : EngineView D} (fault : Fault) → FailsAtOnce conduct dig old fault → fault ≡ log_full → FindsLogFull conduct dig old
+  full_at_once fault (inl call) full = absurd (call_not_full fault call full)
+  full_at_once fault (inr refused) full = refused_full refused.led refused.refused refused.told full
 
   -- behind events that came before
-  pub found_later : (old mid : EngineView D) → LeadsTo conduct dig old mid → FindsLogFull conduct dig mid → FindsLogFull conduct dig old
-  found_later old mid led found = record { mid = found.mid; led = both old mid found.mid led found.led; last = found.last; full = found.full }
+  pub found_later : {old mid : EngineView D} → LeadsTo conduct dig old mid → FindsLogFull conduct dig mid → FindsLogFull conduct dig old
+  found_later {old} {mid} led found = record { mid = found.mid; led = both old mid found.mid led found.led; last = found.last; full = found.full }
 
 -- of the store that was opened
 pub filled_log : (is_info : Bool) (usage : FileUse) (dir : List ℕ) (log : Option (Bor (List ℕ))) (store : EngineView DeviceView)

@@ -152,19 +152,19 @@ module _ {D L : Type 0} (Try : Turn D L) (first : EngineView D) (whole : List L)
     }
 
     pub all_told : (now : EngineView D) (links : List L) (written : Result (Unit {0}) Fault) (text : Option (List ℕ)) → WereTried now links written text
-        → OnOk written (TellsInTurn (InTurnOrStopped Try) peers first whole before text links now)
+        → OnOk written (TellsInTurn Try peers first whole before text links now)
     all_told now links (Ok done) text were = record { ends = were.ends; tried = were.turns; lines = were.lines }
     all_told now links (Err fault) text were = tt
 
     pub not_all_told : (now : EngineView D) (links : List L) (written : Result (Unit {0}) Fault) (text : Option (List ℕ)) → WereTried now links written text
-        → IfErr written IsCallFault → IfErr written (λ fault. StopsAmong (InTurnOrStopped Try) first whole links fault now)
+        → IfErr written IsCallFault → IfErr written (λ fault. StopsAmong Try first whole links fault now)
     not_all_told now links (Ok done) text were call = tt
     not_all_told now links (Err fault) text were call = unwritten were.ends were.turns call
 
     -- one more is tried, which ends it
     pub one_ends : (i : ℕ) (now new : EngineView D) (links : List L) (d after : L) (end : PeerEnd) (answer written : Result (Unit {0}) Fault) (fault : Fault)
         (text : Option (List ℕ)) → i < length links → all_complete now.state ≡ false → Try now (get_or links i d) end answer after new
-        → answer ≡ Err fault → AreTried i now links written text → StopsAmong (InTurnOrStopped Try) first whole (set links i after) fault new
+        → answer ≡ Err fault → AreTried i now links written text → StopsAmong Try first whole (set links i after) fault new
     one_ends i now new links d after end answer written fault text within not_done went failed so_far =
         ended (so_far.ends ++ end ∷ replicate (length (drop (i + 1) links)) Untried)
         (stopped_here i now new links so_far.ends d after end fault within not_done (subst (λ a. Try now (get_or links i d) end a after new) failed went) so_far.leads)

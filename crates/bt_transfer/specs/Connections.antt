@@ -20,14 +20,6 @@ pub data InSeries {D : Type 0} (Meet : Meeting D) : EngineView D → List PeerEn
   one_more : (old mid new : EngineView D) (ends : List PeerEnd) (end : PeerEnd)
       → InSeries Meet old ends mid → Meet mid end new → InSeries Meet old (ends ++ end ∷ []) new
 
--- Serving fails: events led on from the old engine, and the last thing was a flush. The fault is that of this flush,
--- where it was refused; where it was made, that of a call.
-pub record FailsToServe {D : Type 0} (conduct : Conduct D)
-    (dig : List ℕ → List ℕ) (old : EngineView D) (fault : Fault) (new : EngineView D) : Type 0 where
-  pub mid : EngineView D
-  pub led : LeadsTo conduct dig old mid
-  pub ended : FailsWithFlush conduct dig mid fault new
-
 -- ---- lines
 
 -- a line for each; the first has the number 1
@@ -42,9 +34,18 @@ pub record HasServed {D : Type 0} (Meet : Meeting D) (count : ℕ) (old : Engine
   pub in_series : InSeries Meet old ends new
   pub lines : Appends before after (served_lines ends)
 
--- a connection is served over TCP, and then all devices are synced
-pub record MeetsAndSyncs {D : Type 0} (conduct : Conduct D)
-    (dig : List ℕ → List ℕ) (old : EngineView D) (end : PeerEnd) (new : EngineView D) : Type 0 where
-  pub mid : EngineView D
-  pub met : MeetsOverTcp conduct dig old end mid
-  pub synced : StepsTo conduct dig mid Flush (Flushed (Ok tt)) new
+-- ---- one connection
+
+module _ {D : Type 0} (conduct : Conduct D) (dig : List ℕ → List ℕ) where
+  -- a connection is served over TCP, and then all devices are synced
+  pub record MeetsAndSyncs (old : EngineView D) (end : PeerEnd) (new : EngineView D) : Type 0 where
+    pub mid : EngineView D
+    pub met : MeetsOverTcp conduct dig old end mid
+    pub synced : StepsTo conduct dig mid Flush (Flushed (Ok tt)) new
+
+  -- Serving fails: events led on from the old engine, and the last thing was a flush. The fault is that of this
+  -- flush, where it was refused; where it was made, that of a call.
+  pub record FailsToServe (old : EngineView D) (fault : Fault) (new : EngineView D) : Type 0 where
+    pub mid : EngineView D
+    pub led : LeadsTo conduct dig old mid
+    pub ended : FailsWithFlush conduct dig mid fault new

@@ -10,53 +10,49 @@ use Rattle.bt_machine.specs.Opening.{BeginsOn}
 use Rattle.bt_machine.specs.State.{EngineView}
 use Rattle.bt_connection.specs.ShortBlocks.{short_blocks_of}
 use Rattle.bt_session.specs.Peer.{IsFlushedWhere}
+use Rattle.bt_session.specs.declared.flushing.Flushing.{Flushing}
+use Rattle.bt_session.specs.declared.flushing.Flushing.TheVariants.{Never, Each}
 use Rattle.bt_session.specs.declared.peer_end.PeerEnd.{PeerEnd}
 use Rattle.bt_wire.specs.declared.message.Ask.{Ask}
 use Rattle.bt_engine.specs.WholeRuns.{IsFileMarkedOnPath, HasWholeRun}
 use Rattle.bt_sockets.specs.Link.{Dials, undialled}
+use Rattle.bt_sockets.specs.declared.listener.TheConstants.{SESSION_TURNS}
 use Rattle.bt_files.specs.DataFiles.{DeviceView}
 use Rattle.bt_files.specs.declared.file_use.FileUse.TheVariants.{Fetch}
 use Rattle.bt_files.specs.Ending.{IsConcluded}
 use Rattle.bt_files.specs.Loading.{IsLoaded}
 use Rattle.bt_transfer.specs.FetchTogether.{HasFetchedTogether}
-use Rattle.bt_transfer.specs.OverTcp.{TriesWithFlushesOverTcp}
+use Rattle.bt_transfer.specs.OverTcp.{tcp_conduct}
 use Rattle.bt_together.specs.PeerLines.{peer_lines}
-use Rattle.bt_transfer.specs.Turns.{InTurnOrStopped, TriesAndTakesIn, Turns}
+use Rattle.bt_transfer.specs.Turns.{InTurnOrStopped, LinkConduct, TriesAndTakesIn, Turn}
 use Rattle.bt_files.specs.Report.{ReportsMarked, ReportsPublished}
 use Rattle.bt_words.specs.declared.peer.Peer.{Peer}
 
 -- ---- peers in turn, and a report
 
 -- The peers were tried in turn, no fault ended it, and a line tells of each that was tried.
-pub record TellsInTurn {D L : Type 0} (InTurns : Turns D L) (peers : List Peer) (old : EngineView D)
+pub record TellsInTurn {D L : Type 0} (Try : Turn D L) (peers : List Peer) (old : EngineView D)
     (links : List L) (before after : Option (List ℕ)) (rest : List L) (new : EngineView D) : Type 0 where
   pub ends : List PeerEnd
-  pub tried : InTurns old links ends rest (Ok tt) new
+  pub tried : InTurnOrStopped Try old links ends rest (Ok tt) new
   pub lines : Appends before after (peer_lines peers ends)
 
--- and then it is concluded
-pub record HasFetched {D L : Type 0} (InTurns : Turns D L) (conduct : Conduct D) (dig : List ℕ → List ℕ)
-    (peers : List Peer) (old : EngineView D) (links : List L)
+-- The peers were tried in turn by links of this kind, with a flush after each `every`-th turn of a session; behind each
+-- peer what came without its hashes was taken in, and all was synced; a line tells of each; and then it is concluded.
+pub record HasFetched {D L R W : Type 0} (conduct : Conduct D) (dig : List ℕ → List ℕ)
+    (kind : LinkConduct L R W) (flushing : Flushing) (turns : ℕ) (peers : List Peer) (old : EngineView D) (links : List L)
     (before after : Option (List ℕ)) (status : ℕ) (rest : List L) (new : EngineView D) : Type 0 where
   pub kept : EngineView D
   pub told : Option (List ℕ)
-  pub in_turn : TellsInTurn InTurns peers old links before told rest kept
+  pub in_turn : TellsInTurn (TriesAndTakesIn conduct dig kind flushing turns) peers old links before told rest kept
   pub end : IsConcluded conduct dig kept told after status new
 
 -- ---- over TCP
 
--- After how many turns of a peer's session, each time, a fetch with a log flushes; one without a log never
--- does, for which 0 stands.
-abbrev pub flush_turns : Option (Bor (List ℕ)) → ℕ
-flush_turns None = 0
-flush_turns (Some path) = 2048
-
--- Peers are tried in turn over TCP; in their sessions there are flushes where there is a log, and none without one.
--- Behind each peer what came without its hashes is taken in, and all is synced.
-abbrev pub TurnsOverTcp : {D : Type 0} → Conduct D → (List ℕ → List ℕ)
-    → (log : Option (Bor (List ℕ))) → Turns D Dials
-TurnsOverTcp conduct dig log =
-    InTurnOrStopped (TriesAndTakesIn (TriesWithFlushesOverTcp conduct dig (flush_turns log)) conduct dig)
+-- when a fetch flushes in the session with a peer: never without a log
+abbrev pub fetch_flushing : (log : Option (Bor (List ℕ))) → Flushing
+fetch_flushing None = Never
+fetch_flushing (Some path) = Each 2048
 
 -- A link to each peer's host and port, in their order, none of which was dialled. What stands before their
 -- sockets goes by these short blocks, and by how many pieces there are.
@@ -67,22 +63,22 @@ links_by short pieces peers = map (λ peer. undialled peer.host.now peer.port sh
 abbrev pub links_of : Metainfo → List Peer → List Dials
 links_of torrent peers = links_by (short_blocks_of torrent) (total_pieces torrent) peers
 
--- The same over a new link to each of the peers, for the engine's own torrent.
-pub record HasFetchedOverTcp {D : Type 0} (conduct : Conduct D)
-    (dig : List ℕ → List ℕ) (peers : List Peer) (log : Option (Bor (List ℕ))) (old : EngineView D)
-    (before after : Option (List ℕ)) (status : ℕ) (new : EngineView D) : Type 0 where
-  pub rest : List Dials
-  pub fetched : HasFetched (TurnsOverTcp conduct dig log) conduct dig peers
-      old (links_of old.state.torrent peers) before after status rest new
+module _ {D : Type 0} (conduct : Conduct D) (dig : List ℕ → List ℕ) where
+  -- The peers were fetched from in turn, each over a new link for the engine's own torrent. In their sessions there were
+  -- flushes where there is a log, and none without one.
+  pub record HasFetchedOverTcp (peers : List Peer) (log : Option (Bor (List ℕ))) (old : EngineView D)
+      (before after : Option (List ℕ)) (status : ℕ) (new : EngineView D) : Type 0 where
+    pub rest : List Dials
+    pub fetched : HasFetched conduct dig tcp_conduct (fetch_flushing log) SESSION_TURNS peers
+        old (links_of old.state.torrent peers) before after status rest new
 
--- The peers were fetched from: one after the other, or from all at once.
-abbrev pub Fetches : {D : Type 0} → Conduct D → (List ℕ → List ℕ) → (are_together : Bool) → List Peer
-    → (log : Option (Bor (List ℕ))) → EngineView D → (before after : Option (List ℕ)) → (status : ℕ)
-    → EngineView D → Type 0
-Fetches conduct dig false peers log old before after status new =
-    HasFetchedOverTcp conduct dig peers log old before after status new
-Fetches conduct dig true peers log old before after status new =
-    HasFetchedTogether conduct dig peers old before after status new
+  -- The peers were fetched from: one after the other, or from all at once.
+  abbrev pub Fetches : (are_together : Bool) → List Peer → (log : Option (Bor (List ℕ))) → EngineView D
+      → (before after : Option (List ℕ)) → (status : ℕ) → EngineView D → Type 0
+  Fetches false peers log old before after status new =
+      HasFetchedOverTcp peers log old before after status new
+  Fetches true peers log old before after status new =
+      HasFetchedTogether conduct dig peers old before after status new
 
 -- ---- the whole
 

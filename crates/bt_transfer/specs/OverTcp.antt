@@ -1,20 +1,17 @@
 -- Peers over TCP. What a socket gives is some bytes, and it takes some: it is known by these alone.
-use Rattle.std.specs.Prelude.{⊤, ℕ, List}
+use Rattle.std.specs.Prelude.{⊤, ℕ, List, Option}
 use Rattle.bt_disk.specs.Conduct.{Conduct}
 use Rattle.bt_machine.specs.State.{EngineView}
-use Rattle.bt_session.specs.Peers.{IsTriedWithFlushes, TrialWithFlushes}
 use Rattle.bt_session.specs.declared.peer_end.PeerEnd.{PeerEnd}
 use Rattle.bt_sockets.specs.Link.{Dials}
 use Rattle.bt_sockets.specs.Listener.{IsServed}
 use Rattle.bt_sockets.specs.declared.listener.TheConstants.{SESSION_TURNS}
+use Rattle.bt_transfer.specs.Turns.{LinkConduct, link_conduct}
 
--- A peer is tried, over a link of which the dials are counted; the engine is flushed after each `every`-th turn of the
--- session, and after the session, or never where that is 0.
-abbrev pub TriesWithFlushesOverTcp : {D : Type 0} → Conduct D
-    → (List ℕ → List ℕ) → (every : ℕ) → TrialWithFlushes D Dials
-TriesWithFlushesOverTcp conduct dig every =
-    IsTriedWithFlushes conduct dig (λ link. link.all) (λ link. link.failed)
-    (λ link given taken. ⊤) (λ bytes. bytes) (λ bytes. bytes) every SESSION_TURNS
+-- what is known of links over TCP: how often one was dialled, how often that failed, and the bytes of its connections
+abbrev pub tcp_conduct : LinkConduct Dials (Option (List ℕ)) (Option (List ℕ))
+tcp_conduct =
+    link_conduct (λ link. link.all) (λ link. link.failed) (λ link given taken. ⊤) (λ bytes. bytes) (λ bytes. bytes)
 
 -- what is said of one connection: of the engine before, the peer's end and the engine afterwards
 abbrev pub Meeting : (D : Type 0) → Type 1

@@ -27,25 +27,6 @@ use Rattle.bt_words.specs.declared.peer.Service.{Service}
 use Rattle.bt_words.specs.declared.peer.Serving.{Serving}
 use Rattle.bt_words.specs.declared.peer.Serving.TheVariants.{Count, Together, Forever}
 
--- As many connections were served as is said: one after the other, and after each all devices were synced; or at once.
--- Where no count is given, they were all that can be numbered.
-abbrev pub Serves : {D : Type 0} → Conduct D → (List ℕ → List ℕ) → Serving → EngineView D
-    → (before after : Option (List ℕ)) → EngineView D → Type 0
-Serves conduct dig (Count count) old before after new =
-    HasServed (MeetsAndSyncs conduct dig) count old before after new
-Serves conduct dig (Together count) old before after new =
-    HasServedTogether conduct dig count old before after new
-Serves conduct dig Forever old before after new =
-    HasServedTogether conduct dig (2 ^ 64 - 1) old before after new
-
--- As many were served as is said, and all devices were synced at the end: also where it was none.
-pub record HasServedAll {D : Type 0} (conduct : Conduct D)
-    (dig : List ℕ → List ℕ) (serving : Serving) (old : EngineView D) (before after : Option (List ℕ))
-    (new : EngineView D) : Type 0 where
-  pub mid : EngineView D
-  pub served : Serves conduct dig serving old before after mid
-  pub synced : StepsTo conduct dig mid Flush (Flushed (Ok tt)) new
-
 -- the port at which connections are waited for
 abbrev pub listening_line : ℕ → List ℕ
 listening_line port = line_text (codes "listening " ++ decimal port)
@@ -54,27 +35,37 @@ listening_line port = line_text (codes "listening " ++ decimal port)
 abbrev pub IsPortFor : (asked port : ℕ) → Type 0
 IsPortFor asked port = asked ≢ 0 → port ≡ asked
 
--- the port of a listener was told, as the service asks for one, and then connections were served
-pub record HasListened {D : Type 0} (conduct : Conduct D)
-    (dig : List ℕ → List ℕ) (service : Service) (old : EngineView D) (before after : Option (List ℕ))
-    (new : EngineView D) : Type 0 where
-  pub port : ℕ
-  pub told : Option (List ℕ)
-  pub listening : Appends before told (listening_line port)
-  pub served : HasServedAll conduct dig service.serving old told after new
-  pub asked : IsPortFor service.port port
+module _ {D : Type 0} (conduct : Conduct D) (dig : List ℕ → List ℕ) where
+  -- As many connections were served as is said: one after the other, and after each all devices were synced; or at
+  -- once. Where no count is given, they were all that can be numbered.
+  abbrev pub Serves : Serving → EngineView D → (before after : Option (List ℕ)) → EngineView D → Type 0
+  Serves (Count count) old before after new = HasServed (MeetsAndSyncs conduct dig) count old before after new
+  Serves (Together count) old before after new = HasServedTogether conduct dig count old before after new
+  Serves Forever old before after new = HasServedTogether conduct dig (2 ^ 64 - 1) old before after new
 
--- serving fails, one after the other or at once
-abbrev pub FailsServing : {D : Type 0} → Conduct D → (List ℕ → List ℕ)
-    → EngineView D → Fault → EngineView D → Type 0
-FailsServing conduct dig old fault new =
-    FailsToServe conduct dig old fault new ⊎ FailsAtOnce conduct dig old fault
+  -- As many were served as is said, and all devices were synced at the end: also where it was none.
+  pub record HasServedAll (serving : Serving) (old : EngineView D) (before after : Option (List ℕ))
+      (new : EngineView D) : Type 0 where
+    pub mid : EngineView D
+    pub served : Serves serving old before after mid
+    pub synced : StepsTo conduct dig mid Flush (Flushed (Ok tt)) new
 
--- a seed fails: before it serves, by a call, and the engine is as it was; or as it serves
-abbrev pub FailsToSeed : {D : Type 0} → Conduct D → (List ℕ → List ℕ)
-    → EngineView D → Fault → EngineView D → Type 0
-FailsToSeed conduct dig old fault new =
-    ((new ≡ old) × IsCallFault fault) ⊎ FailsServing conduct dig old fault new
+  -- the port of a listener was told, as the service asks for one, and then connections were served
+  pub record HasListened (service : Service) (old : EngineView D) (before after : Option (List ℕ))
+      (new : EngineView D) : Type 0 where
+    pub port : ℕ
+    pub told : Option (List ℕ)
+    pub listening : Appends before told (listening_line port)
+    pub served : HasServedAll service.serving old told after new
+    pub asked : IsPortFor service.port port
+
+  -- serving fails, one after the other or at once
+  abbrev pub FailsServing : EngineView D → Fault → EngineView D → Type 0
+  FailsServing old fault new = FailsToServe conduct dig old fault new ⊎ FailsAtOnce conduct dig old fault
+
+  -- a seed fails: before it serves, by a call, and the engine is as it was; or as it serves
+  abbrev pub FailsToSeed : EngineView D → Fault → EngineView D → Type 0
+  FailsToSeed old fault new = ((new ≡ old) × IsCallFault fault) ⊎ FailsServing old fault new
 
 -- An engine that began so, with a torrent, and with a log or without, and has come to `old`, served
 -- connections, and the status is 0. The whole, from its start on, is a run as promised: what it sent was cut

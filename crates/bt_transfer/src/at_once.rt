@@ -11,6 +11,7 @@ use bt_disk::Disk;
 use bt_engine::Engine;
 use bt_gate::{Seats, TcpGate};
 use bt_progress::Watch;
+use bt_session::Flushing;
 use bt_together::serve_together;
 use bt_tree::NodeHash;
 use std::alloc::Global;
@@ -18,17 +19,17 @@ use std::io::{self, ErrorKind, Write};
 use std::net::Net;
 use std::time::Clock;
 
-/// How many connections there is room for at a time, as many as an engine takes.
+/// How many connections there is room for at a time: as many as an engine takes.
 pub(crate) const PLACES: usize = 64;
 
-/// Serves `count` connections, up to 64 at once, and writes as each goes how it ended with it; all is put on the devices,
-/// and into the log, after so many turns of all together, where nobody is there any more, and at the end.
+/// Serves `count` connections, up to 64 at once, and writes how each ended as it goes. The engine is flushed after
+/// each `flush_every` turns of all together, whenever nobody is there any more, and at the end.
 pub(crate) fn serve_at_once<D: Disk + Drop, H: NodeHash, N: Net + Clock, P: Watch, W: Write>(
     alloc: Global,
     reception: &Reception<'_, N, P>,
     engine: &mut Engine<D, H>,
     count: u64,
-    flush_every: u64,
+    flushing: Flushing,
     writer: &mut W,
 ) -> Result<(), Fault>
     requires no_peer { engine.old.state.peers ≡ [] }
@@ -51,12 +52,12 @@ pub(crate) fn serve_at_once<D: Disk + Drop, H: NodeHash, N: Net + Clock, P: Watc
         Ok(gate) => gate,
         Err(error) => return Err(gate_fault(&error)),
     };
-    let served = serve_together(alloc, engine, &mut gate, count, flush_every, writer);
+    let served = serve_together(alloc, engine, &mut gate, count, flushing, writer);
     gate.take_leave();
     served
 }
 
-/// Why a gate can't be had.
+/// The fault that is told where there can be no gate.
 pub(crate) fn gate_fault(error: &io::Error) -> Fault
     ensures { (result ≡ device) ⊎ (result ≡ out_of_memory) }
 {

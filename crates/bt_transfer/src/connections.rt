@@ -23,8 +23,8 @@ use std::io::Write;
 use std::net::Net;
 use std::time::{Clock, Duration};
 
-/// Serves `count` connections, one after the other, whatever came of those before; after each it has all put on the
-/// devices, and into the log, and then writes how it ended with it.
+/// Serves `count` connections, one after the other, whatever came of those before. After each connection it flushes
+/// the engine, and then writes how the connection ended. Errors: those of `serve_and_sync`.
 pub(crate) fn serve_each<D: Disk + Drop, H: NodeHash, N: Net + Clock, P: Watch, W: Write>(
     alloc: Global,
     reception: &Reception<'_, N, P>,
@@ -47,9 +47,10 @@ pub(crate) fn serve_each<D: Disk + Drop, H: NodeHash, N: Net + Clock, P: Watch, 
     Ok(())
 }
 
-/// Serves a connection, which has this number; has all put on the devices, and into the log, also where none could be
-/// taken; and then writes how it ended. Errors: none could be taken; a device or the writer failed; out of memory; the
-/// log is full. Where a flush is refused, that is told, after the line.
+/// Serves one connection, flushes the engine, and then writes a line with the connection's number and how it ended.
+/// The engine is flushed also where no connection could be taken. Errors: no connection could be taken; a device or
+/// the writer failed; out of memory; the log is full. A refused flush is the fault that is told, whatever else
+/// failed; the line is written first.
 fn serve_and_sync<D: Disk + Drop, H: NodeHash, N: Net + Clock, P: Watch, W: Write>(
     alloc: Global,
     reception: &Reception<'_, N, P>,
@@ -76,7 +77,7 @@ fn serve_and_sync<D: Disk + Drop, H: NodeHash, N: Net + Clock, P: Watch, W: Writ
     told
 }
 
-/// Serves a connection. Errors: none could be taken.
+/// Takes one connection and serves it. Errors: none could be taken.
 fn serve_one<D: Disk + Drop, H: NodeHash, N: Net + Clock, P: Watch>(
     alloc: Global,
     reception: &Reception<'_, N, P>,
@@ -101,8 +102,8 @@ fn serve_one<D: Disk + Drop, H: NodeHash, N: Net + Clock, P: Watch>(
     )
 }
 
-/// Writes how it ended with the connection of a number, if there was one. Errors: why there was none; the writer
-/// failed; out of memory.
+/// Writes the line of the connection of a number, if there was one, and gives how it ended. Errors: why there was no
+/// connection; the writer failed; out of memory.
 fn tell_met<W: Write>(
     alloc: Global,
     number: u64,

@@ -1,12 +1,12 @@
-//! What the devices of a store share with its connections.
+//! What the devices of a store share with the connections to its engine.
 ghost use Rattle.std.specs.Prelude.{◌≡◌};
 
 use bt_devices::Seal;
 use bt_files::{DeviceContext, FileUse};
 use bt_sockets::Shared;
 
-/// What connections and devices share, as the devices have it, whose files are opened for a use. The log has a seal of
-/// its own, which nobody closes.
+/// What the devices of a store have of what they share with the connections. Their files are opened for `usage`.
+/// Nobody closes `log_seal`, the seal of the log.
 pub(crate) fn device_context<'a>(
     usage: FileUse,
     shared: &'a Shared,

@@ -1,4 +1,4 @@
-//! What a command tells at its end of a bell, which rings where a device refuses a write.
+//! What a command hears at its end of a bell, which rings where a device refuses a write.
 ghost use Rattle.std.specs.Prelude.{⊤, ◌≡◌, Bool, false, true, IfErr, OnOk};
 ghost use Rattle.bt_check.specs.Fault.{device};
 ghost use Rattle.bt_transfer.specs.Hearing.{IsHeard};
@@ -6,9 +6,9 @@ ghost use Rattle.bt_transfer.specs.Hearing.{IsHeard};
 use bt_check::Fault;
 use bt_devices::Alarm;
 
-/// What rings where a device refuses a write.
+/// Something that rings where a device refuses a write.
 pub(crate) trait Bell {
-    /// That it told whether it ever rang.
+    /// It told so whether it ever rang.
     ghost tells: { Self → Bool → Type 0 };
 
     /// Whether it ever rang.
@@ -25,7 +25,8 @@ impl Bell for Alarm {
     }
 }
 
-/// Hears a bell, where all files are complete or not. Errors: it ever rang, and not all are.
+/// Ends a command by what its bell tells; `is_complete` says whether all files are complete. Errors: `Device` where
+/// the bell ever rang and not all files are complete.
 pub(crate) fn hear<B: Bell>(bell: &B, is_complete: bool) -> Result<(), Fault>
     ensures heard { OnOk result (IsHeard (B.tells bell.now) is_complete) }
     ensures fault { IfErr result

@@ -1,5 +1,5 @@
-//! The commands `seed` and `fetch`: over a store of a torrent's data files connections are made or waited for, one after
-//! the other or many at once, and what came of each is told.
+//! The commands `seed` and `fetch`: over the store of a torrent's data files they wait for connections or make them,
+//! one after the other or many at once, and tell what came of each.
 #![tactic(auto)]
 
 mod at_once;

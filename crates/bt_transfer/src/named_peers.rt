@@ -1,12 +1,12 @@
-//! The peers that a fetch is to fetch from.
+//! The peers that a fetch was asked to fetch from.
 
 use bt_words::Peer;
 
-/// The peers that a fetch is to fetch from, and how.
+/// The peers that a fetch was asked to fetch from, and in which way.
 #[derive(Clone, Copy)]
 pub struct NamedPeers<'a> {
-    /// In their order; one may be there twice.
+    /// The peers, in the order in which they were named; one may be there twice.
     pub peers: &'a [Peer<'a>],
-    /// Whether it fetches from them at once, from 64 at most at a time, and not from one after the other.
+    /// Whether they are fetched from at once, up to 64 of them at a time, and not one after the other.
     pub are_together: bool,
 }

@@ -5,7 +5,8 @@ use bt_sockets::Passage;
 use std::net::Net;
 use std::time::Clock;
 
-/// Where connections are waited for and told of, and what stands between them and the engine that serves them.
+/// By what connections are waited for, whom their calls are told, and what stands between them and the engine that
+/// serves them.
 #[derive(Drop)]
 pub(crate) struct Reception<'a, N: Net + Clock, P: Watch> {
     pub(crate) net: &'a N,

@@ -1,4 +1,5 @@
-//! The command `fetch`: peers are tried in turn or all at once, and what came of it is told.
+//! The command `fetch`: peers are tried one after the other, or all are fetched from at once, and what came of it is
+//! told.
 ghost use Rattle.std.specs.Prelude.{[], ◌≡◌, ◌≢◌, ◌⊎◌, All, Bool, Err, List, Option, Ok, is_some, length, IfErr, IfOk, OnOk};
 ghost use Rattle.std.specs.Io.KnownBytes.{Keeps};
 ghost use Rattle.bt_check.specs.Fault.{log_full, status_of};
@@ -10,14 +11,13 @@ ghost use Rattle.bt_machine.specs.Report.{all_complete};
 ghost use Rattle.bt_connection.specs.ShortBlocks.{short_blocks_of};
 ghost use Rattle.bt_meta.specs.Torrent.{Metainfo, total_pieces};
 ghost use Rattle.bt_session.specs.Peer.{IsFlushedWhere};
-ghost use Rattle.bt_session.specs.Peers.{IsTriedWithFlushes};
 ghost use Rattle.bt_resume.specs.ResumeLog.{LogView};
 ghost use Rattle.bt_engine.specs.Leads.{LeadsTo};
-ghost use Rattle.bt_transfer.specs.Fetch.{EndsFetch, Fetches, HasFetched, HasFetchedOverTcp, IsFetch, TellsInTurn, flush_turns, links_by, links_of};
+ghost use Rattle.bt_transfer.specs.Fetch.{EndsFetch, Fetches, HasFetched, HasFetchedOverTcp, IsFetch, TellsInTurn, fetch_flushing, links_by, links_of};
 ghost use Rattle.bt_transfer.specs.FetchSteps.{BreaksOff, StopsAmong};
 ghost use Rattle.bt_transfer.specs.FullLog.{FindsLogFull, HasFilledLog};
 ghost use Rattle.bt_transfer.specs.Hearing.{IsHeard};
-ghost use Rattle.bt_transfer.specs.Turns.{InTurnOrStopped, TakesInAndSyncs, TakesInBehind, TriesAndTakesIn};
+ghost use Rattle.bt_transfer.specs.Turns.{TakesInAndSyncs, TakesInBehind, TriesAndTakesIn, link_conduct};
 ghost use Rattle.bt_files.specs.Store.{HasBegun, IsFlushFault, IsSameButPending, flush_fault};
 ghost use Rattle.bt_files.specs.Waiting.{StopsAtWaiting};
 
@@ -32,7 +32,7 @@ use bt_disk::Disk;
 use bt_engine::{Engine, whole_runs_keep_promises};
 use bt_files::{FileUse, adopt_waiting, begin_fetching, conclude, finish, flush_fault, load_store};
 use bt_progress::Watch;
-use bt_session::{Link, PeerEnd, meet_peer_with_flushes};
+use bt_session::{Flushing, Link, PeerEnd, meet_peer};
 use bt_sockets::{IDLE_SECONDS, Passage, SESSION_TURNS, Shared, TcpLink};
 use bt_together::tell_peer;
 use bt_tree::NodeHash;
@@ -43,34 +43,37 @@ use std::net::Net;
 use std::rt::Files;
 use std::time::{Clock, Duration};
 
-/// After how many turns with a peer a fetch that has a log puts what came on the devices, and what is known of it into
-/// the log, so that little has to come again where the fetch is killed. A turn takes in what one read from the peer
-/// gives, 16 KiB at most: so at most 32 MiB come between two flushes. Each turn may end a small file, which is synced for
-/// itself, and meanwhile the peer waits, who may give up.
-pub(crate) const FLUSH_TURNS: u64 = 2048;
+/// After how many turns with a peer a fetch with a log flushes its engine, so that little has to come again where the
+/// fetch is killed. A turn takes in what one read from the peer gives, 16 KiB at most: so at most 32 MiB come between
+/// two flushes. It is not more often, since each turn may end a small file, which is synced for itself, and meanwhile
+/// the peer waits and may give up.
+pub(crate) const FLUSH_TURNS: u32 = 2048;
 
-/// After how many turns of all together a fetch does so where many are there: in a turn of one of many nine reads are taken
-/// in, 144 KiB at most. It is looked for once in a round, of up to 64 turns, so 227 may have passed: 32 MiB at most.
-const TOGETHER_TURNS: u64 = 164;
+/// After how many turns of all peers together a fetch from many at once flushes its engine. Here a turn takes in up
+/// to nine reads, 144 KiB at most; and whether a flush is due is looked for once a round, of up to 64 turns. So up to
+/// 227 turns pass between two flushes, in which at most 32 MiB come.
+const TOGETHER_TURNS: u32 = 164;
 
-/// Opens the store of a torrent's files in a folder, as `load_store` does; fetches from peers until all files are
-/// complete; and reports. The answer is the status of the program: 0 where all files are complete, else 1.
+/// Opens the store of a torrent's files in the folder `dir`, as `load_store` does; fetches from the peers until all
+/// files are complete; and reports how far the files are. Gives the status of the program: 0 where all files are
+/// complete, else 1.
 ///
-/// Peers are taken in turn: behind each it takes in what came without hashes, has all put on the devices, and then writes
-/// how it ended with it. Or it fetches from up to 64 at once, the next as one goes: behind all it takes in what came
-/// without hashes, and, where some did and blocks are missing still, dials all once more; then it has all put on the
-/// devices, and writes how it ended with each that was tried, in their order.
+/// One after the other: behind each peer it takes in what came without hashes, flushes the engine, and then writes
+/// how it ended with that peer. At once: it fetches from up to 64 peers, the next one as one goes. Behind all of them
+/// it takes in what came without hashes; where something did and blocks are missing still, it dials all of them once
+/// more. Then it flushes the engine, and writes how it ended with each peer that was tried, in the order in which
+/// they were named.
 ///
-/// Where the path of a log is given, it has all put on the devices, and what is known of it into the log, also before
-/// the first peer is dialled, and then while it fetches, after each 2,048 turns with a peer, or 164 of all together, and
-/// right after each, or after all; also where it ends with a fault of a file that can't be read.
+/// With a log, whose path is `log`, it flushes the engine also before it dials the first peer, and then on the way:
+/// after each 2,048 turns with a peer and right after each peer; or after each 164 turns of all together and after
+/// all of them. A flush comes also where a file can't be read.
 ///
-/// It is told how much is read of what the files have, and then how much is written of what they lack.
+/// The watch is told how many bytes are read of what the files have, and then how many are written of what they lack.
 ///
-/// A session ends where a device refuses a write. Where that was so of one of them, and files are not complete, the
-/// device's fault comes after the report.
+/// A session ends where a device refuses a write. Where that came in a session, and not all files are complete, the
+/// device's fault is told after the report.
 ///
-/// Errors: the torrent or the log is refused, or two of the torrent's paths are one file, and then nothing is printed;
+/// Errors: the torrent or the log is refused, or two paths of the torrent are one file, and then nothing is written;
 /// a device or the writer failed; out of memory; the log is full.
 pub fn fetch<R: Files + AllocGlobal + Clone + Drop, N: Net + Clock, P: Watch, W: Write>(
     rt: &R,
@@ -100,9 +103,9 @@ pub fn fetch<R: Files + AllocGlobal + Clone + Drop, N: Net + Clock, P: Watch, W:
     fetch_store(rt.alloc(), net, watch, engine, &shared, named, log, writer)
 }
 
-/// Fetches from peers, over TCP, for an engine that began with a torrent, which it takes, and tells of it; where the path
-/// of its log is given, with a flush before them and flushes among them. What stands before the sockets goes by that
-/// torrent.
+/// Fetches from peers over TCP for an engine, which it takes and which began with a torrent, and tells how it went.
+/// Where `log` is the path of the engine's log, the engine is flushed before the peers and among them. What stands
+/// before the sockets is made for the engine's torrent.
 fn fetch_store<D: Disk + Drop, H: NodeHash, N: Net + Clock, P: Watch, W: Write>(
     alloc: Global,
     net: &N,
@@ -124,7 +127,8 @@ fn fetch_store<D: Disk + Drop, H: NodeHash, N: Net + Clock, P: Watch, W: Write>(
     ensures full { IfErr result
         (λ fault. fault ≡ log_full → FindsLogFull D.conduct H.digest engine) }
 {
-    // These calls say what holds of the engine, and of whatever led to it and leads on from it.
+    // The contracts of these calls say what holds of the engine, of all that led to it, and of all that leads on from
+    // it.
     engine.keeps_laws();
     whole_runs_keep_promises(&engine);
     let mut engine = engine;
@@ -140,8 +144,8 @@ fn fetch_store<D: Disk + Drop, H: NodeHash, N: Net + Clock, P: Watch, W: Write>(
     fetch_from_all(alloc, net, watch, &mut engine, named, log, passage, writer)
 }
 
-/// Fetches from peers over TCP, in turn or from all at once, for an engine of a torrent, and tells of it; then it hears
-/// the alarm. Errors: also where that rang, since a device refused a write, and files are not complete.
+/// Fetches from peers over TCP, one after the other or from all at once, and tells how it went; then it hears the
+/// alarm. Errors: also where the alarm rang, since a device refused a write, and not all files are complete.
 fn fetch_from_all<D: Disk + Drop, H: NodeHash, N: Net + Clock, P: Watch, W: Write>(
     alloc: Global,
     net: &N,
@@ -153,7 +157,8 @@ fn fetch_from_all<D: Disk + Drop, H: NodeHash, N: Net + Clock, P: Watch, W: Writ
     writer: &mut W,
 ) -> Result<u8, Fault>
     requires no_peer { engine.old.state.peers ≡ [] }
-    requires own_short_blocks { passage.short_blocks.now ≡ short_blocks_of engine.old.state.torrent }
+    requires own_short_blocks { passage.short_blocks.now
+        ≡ short_blocks_of engine.old.state.torrent }
     requires own_pieces { passage.pieces ≡ total_pieces engine.old.state.torrent }
     ensures fetched { IfOk result (λ status. Fetches D.conduct H.digest
         named.entry.are_together named.entry.peers.now log.entry
@@ -166,18 +171,19 @@ fn fetch_from_all<D: Disk + Drop, H: NodeHash, N: Net + Clock, P: Watch, W: Writ
     let peers = named.peers;
     let bell = &passage.shared.alarm;
     if named.are_together {
-        let every = together_turns(log);
+        let flushing = together_flushing(log);
         return fetch_together(
-            alloc, net, watch, engine, peers, every, passage, bell, writer,
+            alloc, net, watch, engine, peers, flushing, passage, bell, writer,
         );
     }
     let mut links = links_to(alloc, net, watch, peers, passage)?;
     fetch_from(alloc, watch, engine, peers, &mut links, log, bell, writer)
 }
 
-/// Where the path of a log is given, has all put on the devices while no peer waits yet. A file of which the log marks
-/// a block counts as not synced until its first flush. So this one opens and syncs each of these, which takes minutes
-/// where there are thousands; later ones sync those that were written since. Errors: it was refused.
+/// Where `log` is the path of the engine's log, flushes the engine, before the first peer is dialled and has to wait.
+/// A file of which the log marks a block counts as not synced until its first flush. This flush opens and syncs all
+/// such files, which takes minutes where there are thousands; later ones sync only the files that were written since.
+/// Errors: the flush was refused.
 fn flush_first<D: Disk + Drop, H: NodeHash>(
     engine: &mut Engine<D, H>,
     log: Option<&str>,
@@ -198,27 +204,27 @@ fn flush_first<D: Disk + Drop, H: NodeHash>(
     }
 }
 
-/// After how many turns with a peer a fetch flushes: never, for which 0 stands, without a log.
-fn flush_turns(log: Option<&str>) -> u64
-    ensures { result ≡ flush_turns log.entry }
+/// When a fetch flushes in the session with a peer: never without a log.
+fn fetch_flushing(log: Option<&str>) -> Flushing
+    ensures { result ≡ fetch_flushing log.entry }
 {
     match log {
-        Some(_) => FLUSH_TURNS,
-        None => 0,
+        Some(_) => Flushing::Each(FLUSH_TURNS),
+        None => Flushing::Never,
     }
 }
 
-/// After how many turns of all together a fetch from many at once flushes: never, for which 0 stands, without a log.
-fn together_turns(log: Option<&str>) -> u64 {
+/// When a fetch from many at once flushes: never without a log.
+fn together_flushing(log: Option<&str>) -> Flushing {
     match log {
-        Some(_) => TOGETHER_TURNS,
-        None => 0,
+        Some(_) => Flushing::Each(TOGETHER_TURNS),
+        None => Flushing::Never,
     }
 }
 
-/// Takes peers in turn, each by its link over TCP, until an engine of a torrent is complete, and tells of it as
-/// `fetch_over` does; where the path of its log is given, with flushes among them; then it hears a bell. Errors: also
-/// where that rang, since a device refused a write, and files are not complete.
+/// Takes peers in turn, each by its link over TCP, until the engine is complete, and concludes, as `fetch_over` does.
+/// Where `log` is the path of the engine's log, the engine is flushed among them. Then it hears the bell. Errors:
+/// also where the bell rang, since a device refused a write, and not all files are complete.
 fn fetch_from<D: Disk + Drop, H: NodeHash, N: Net + Clock, P: Watch, B: Bell, W: Write>(
     alloc: Global,
     watch: &P,
@@ -239,7 +245,7 @@ fn fetch_from<D: Disk + Drop, H: NodeHash, N: Net + Clock, P: Watch, B: Bell, W:
     ensures full { IfErr result
         (λ fault. fault ≡ log_full → FindsLogFull D.conduct H.digest engine.old) }
 {
-    let every = flush_turns(log);
+    let flushing = fetch_flushing(log);
     let status = fetch_over(
         alloc,
         watch,
@@ -247,14 +253,14 @@ fn fetch_from<D: Disk + Drop, H: NodeHash, N: Net + Clock, P: Watch, B: Bell, W:
         peers,
         links,
         SESSION_TURNS,
-        every,
+        flushing,
         writer,
     )?;
     hear(bell, engine.is_complete())?;
     Ok(status)
 }
 
-/// A link to each peer, in their order, which share their passage.
+/// Makes a link to each peer, in their order. The links share what stands before their sockets (`passage`).
 fn links_to<'a, N: Net + Clock, P: Watch>(
     alloc: Global,
     net: &'a N,
@@ -274,8 +280,8 @@ fn links_to<'a, N: Net + Clock, P: Watch>(
     Ok(links)
 }
 
-/// Takes peers in turn, as `take_turns` does, and then concludes. Errors: also where a line of a peer could not be
-/// written, and what came is on the devices all the same.
+/// Takes peers in turn, as `take_turns` does, and then concludes: flushes the engine, and writes how far the files
+/// are. Errors: also where the line of a peer could not be written; all that came is on the devices even then.
 fn fetch_over<D: Disk + Drop, H: NodeHash, P: Watch, L: Link, W: Write>(
     alloc: Global,
     watch: &P,
@@ -283,43 +289,33 @@ fn fetch_over<D: Disk + Drop, H: NodeHash, P: Watch, L: Link, W: Write>(
     peers: &[Peer<'_>],
     links: &mut [L],
     turns: u64,
-    flush_every: u64,
+    flushing: Flushing,
     writer: &mut W,
 ) -> Result<u8, Fault>
     requires same_length { length links.old ≡ length peers.now }
     requires undialled { All (λ link. L.dials link ≡ 0) links.old }
     requires no_peer { engine.old.state.peers ≡ [] }
-    ensures fetched { IfOk result (λ status. HasFetched
-        (InTurnOrStopped (TriesAndTakesIn (IsTriedWithFlushes D.conduct H.digest L.dials L.failures L.gives
-        L.R.remaining L.W.contents flush_every turns) D.conduct H.digest))
-        D.conduct H.digest peers.now engine.old links.old (W.contents writer.old)
-        (W.contents writer.new) status links.new engine.new) }
-    ensures broken_off { IfErr result (λ fault. BreaksOff
-        (InTurnOrStopped (TriesAndTakesIn (IsTriedWithFlushes D.conduct H.digest L.dials L.failures L.gives
-        L.R.remaining L.W.contents flush_every turns) D.conduct H.digest))
-        D.conduct H.digest engine.old links.old links.new fault engine.new) }
+    ensures fetched { IfOk result (λ status. HasFetched D.conduct H.digest
+        (link_conduct L.dials L.failures L.gives L.R.remaining L.W.contents) flushing
+        turns peers.now
+        engine.old links.old (W.contents writer.old) (W.contents writer.new) status links.new
+        engine.new) }
+    ensures broken_off { IfErr result (λ fault. BreaksOff D.conduct H.digest
+        (link_conduct L.dials L.failures L.gives L.R.remaining L.W.contents) flushing turns
+        engine.old links.old links.new fault engine.new) }
     ensures run { LeadsTo D.conduct H.digest engine.old engine.new }
     ensures fault { IfErr result (IsEndFault engine.old.log) }
     ensures full { IfErr result
         (λ fault. fault ≡ log_full → FindsLogFull D.conduct H.digest engine.old) }
 {
-    take_turns(
-        alloc,
-        watch,
-        engine,
-        peers,
-        links,
-        turns,
-        flush_every,
-        writer,
-    )?;
+    take_turns(alloc, watch, engine, peers, links, turns, flushing, writer)?;
     watch.clear();
     conclude(alloc, engine, writer)
 }
 
-/// Takes peers in turn, each by its link, until the engine is complete, as `try_peer` does; and writes behind each how
-/// it ended with it. Errors: a fault of a peer's turn, behind whose line nothing more is done; or, once all have had
-/// their turns, why the line of one was not written, and then none after it is.
+/// Takes peers in turn, each by its link, until the engine is complete: tries a peer as `try_peer` does, and then
+/// writes how it ended with that peer. Errors: a peer's turn ended with a fault, and then its line is the last thing
+/// that is done; or, once all had their turns, the line of a peer could not be written, and then no line after it is.
 fn take_turns<D: Disk + Drop, H: NodeHash, P: Watch, L: Link, W: Write>(
     alloc: Global,
     watch: &P,
@@ -327,19 +323,18 @@ fn take_turns<D: Disk + Drop, H: NodeHash, P: Watch, L: Link, W: Write>(
     peers: &[Peer<'_>],
     links: &mut [L],
     turns: u64,
-    flush_every: u64,
+    flushing: Flushing,
     writer: &mut W,
 ) -> Result<(), Fault>
     requires same_length { length links.old ≡ length peers.now }
     requires undialled { All (λ link. L.dials link ≡ 0) links.old }
     requires no_peer { engine.old.state.peers ≡ [] }
-    ensures told { OnOk result (TellsInTurn
-        (InTurnOrStopped (TriesAndTakesIn (IsTriedWithFlushes D.conduct H.digest L.dials L.failures L.gives
-        L.R.remaining L.W.contents flush_every turns) D.conduct H.digest))
-        peers.now engine.old links.old (W.contents writer.old) (W.contents writer.new) links.new engine.new) }
-    ensures stopped { IfErr result (λ fault. StopsAmong
-        (InTurnOrStopped (TriesAndTakesIn (IsTriedWithFlushes D.conduct H.digest L.dials L.failures L.gives
-        L.R.remaining L.W.contents flush_every turns) D.conduct H.digest))
+    ensures told { OnOk result (TellsInTurn (TriesAndTakesIn D.conduct H.digest
+        (link_conduct L.dials L.failures L.gives L.R.remaining L.W.contents) flushing turns)
+        peers.now engine.old links.old (W.contents writer.old) (W.contents writer.new) links.new
+        engine.new) }
+    ensures stopped { IfErr result (λ fault. StopsAmong (TriesAndTakesIn D.conduct H.digest
+        (link_conduct L.dials L.failures L.gives L.R.remaining L.W.contents) flushing turns)
         engine.old links.old links.new fault engine.new) }
     ensures run { LeadsTo D.conduct H.digest engine.old engine.new }
     ensures fault { IfErr result (IsEndFault engine.old.log) }
@@ -351,7 +346,7 @@ fn take_turns<D: Disk + Drop, H: NodeHash, P: Watch, L: Link, W: Write>(
         if engine.is_complete() {
             break;
         }
-        let (end, kept) = try_peer(alloc, engine, link, turns, flush_every);
+        let (end, kept) = try_peer(alloc, engine, link, turns, flushing);
         watch.clear();
         written = tell_peer(alloc, written, &peers[i], end, writer);
         kept?;
@@ -360,21 +355,21 @@ fn take_turns<D: Disk + Drop, H: NodeHash, P: Watch, L: Link, W: Write>(
 }
 
 /// Dials a peer, and has a session with it until the engine is complete, where it is reached, of at most `turns` turns,
-/// with a flush after each `flush_every`-th and after the session, or with none where that is 0. Then it takes in what
-/// came without hashes, and has all put on the devices. Says how it ended with the peer, and the first fault: a flush
-/// was refused, or a file could not be taken in.
+/// with flushes in the session and after it, or with none. Then it takes in what came without hashes, and has all put on
+/// the devices. Says how it ended with the peer, and the first fault: a flush was refused, or a file could not be taken
+/// in.
 fn try_peer<D: Disk + Drop, H: NodeHash, L: Link>(
     alloc: Global,
     engine: &mut Engine<D, H>,
     link: &mut L,
     turns: u64,
-    flush_every: u64,
+    flushing: Flushing,
 ) -> (PeerEnd, Result<(), Fault>)
     requires undialled { L.dials link.old ≡ 0 }
     requires no_peer { engine.old.state.peers ≡ [] }
-    ensures tried { TriesAndTakesIn (IsTriedWithFlushes D.conduct H.digest L.dials L.failures L.gives
-        L.R.remaining L.W.contents flush_every turns)
-        D.conduct H.digest engine.old link.old result.0 result.1 link.new engine.new }
+    ensures tried { TriesAndTakesIn D.conduct H.digest
+        (link_conduct L.dials L.failures L.gives L.R.remaining L.W.contents) flushing turns
+        engine.old link.old result.0 result.1 link.new engine.new }
     ensures gone { engine.new.state.peers ≡ [] }
     ensures run { LeadsTo D.conduct H.digest engine.old engine.new }
     ensures fault { IfErr result.1 (IsEndFault engine.old.log) }
@@ -382,16 +377,16 @@ fn try_peer<D: Disk + Drop, H: NodeHash, L: Link>(
         (λ fault. fault ≡ log_full → FindsLogFull D.conduct H.digest engine.old) }
 {
     let reached = link.dial();
-    let (end, met) = meet_peer_with_flushes(alloc, engine, reached, true, turns, flush_every);
+    let (end, met) = meet_peer(alloc, engine, reached, true, turns, flushing);
     match met {
         Ok(()) => (end, take_in_and_sync(engine, end)),
         Err(error) => (end, Err(flush_fault(error))),
     }
 }
 
-/// Takes in what came without hashes of a peer with which it ended so, and has all put on the devices. Where a file is
-/// not taken in, what those before it got is put there, and into the log, all the same; that fault is told, whatever
-/// comes of this.
+/// Takes in what came of a peer without hashes, and flushes the engine. `end` says how it ended with the peer. Where
+/// a file can't be taken in, that fault is told, whatever comes of the flush: this is made all the same, so that what
+/// the files before it got is kept.
 fn take_in_and_sync<D: Disk + Drop, H: NodeHash>(
     engine: &mut Engine<D, H>,
     end: PeerEnd,
@@ -413,8 +408,8 @@ fn take_in_and_sync<D: Disk + Drop, H: NodeHash>(
     }
 }
 
-/// Takes in what came without hashes, where there was a session: without one nothing came. Errors: a read failed, or
-/// out of memory.
+/// Takes in what came of a peer without hashes, if there was a session with it: without one nothing came. Errors: a
+/// read failed, or out of memory.
 fn take_in_behind<D: Disk + Drop, H: NodeHash>(
     engine: &mut Engine<D, H>,
     end: PeerEnd,

@@ -17,7 +17,7 @@ use bt_engine::Engine;
 use bt_files::{conclude, finish};
 use bt_gate::{Dialling, Door, Seats, TcpGate};
 use bt_progress::Watch;
-use bt_session::PeerEnd;
+use bt_session::{Flushing, PeerEnd};
 use bt_sockets::Passage;
 use bt_together::{fetch_at_once, tell_peers};
 use bt_tree::NodeHash;
@@ -27,8 +27,8 @@ use std::io::Write;
 use std::net::Net;
 use std::time::Clock;
 
-/// Fetches from all peers at once, and concludes; then it hears a bell. Errors: also where that rang, since a device
-/// refused a write, and files are not complete.
+/// Fetches from all peers at once, and concludes: flushes the engine, and writes how far the files are. Then it hears
+/// the bell. Errors: also where the bell rang, since a device refused a write, and not all files are complete.
 pub(crate) fn fetch_together<
     D: Disk + Drop,
     H: NodeHash,
@@ -42,7 +42,7 @@ pub(crate) fn fetch_together<
     watch: &P,
     engine: &mut Engine<D, H>,
     peers: &[Peer<'_>],
-    flush_every: u64,
+    flushing: Flushing,
     passage: Passage<'_>,
     bell: &B,
     writer: &mut W,
@@ -62,19 +62,19 @@ pub(crate) fn fetch_together<
         addresses: addresses.as_slice(),
         passage,
     };
-    let status = fetch_and_tell(alloc, &dialler, engine, peers, flush_every, writer)?;
+    let status = fetch_and_tell(alloc, &dialler, engine, peers, flushing, writer)?;
     hear(bell, engine.is_complete())?;
     Ok(status)
 }
 
-/// Fetches from all peers at once, and concludes. The line of each that was tried is written behind the last flush, in
-/// their order, also where a fault ends it.
+/// Fetches from all peers at once, and concludes. After the flush behind the last peer it writes how it ended with
+/// each peer that was tried, in their order, also where a fault ends the fetch.
 fn fetch_and_tell<D: Disk + Drop, H: NodeHash, N: Net + Clock, P: Watch, W: Write>(
     alloc: Global,
     dialler: &Dialler<'_, N, P>,
     engine: &mut Engine<D, H>,
     peers: &[Peer<'_>],
-    flush_every: u64,
+    flushing: Flushing,
     writer: &mut W,
 ) -> Result<u8, Fault>
     requires no_peer { engine.old.state.peers ≡ [] }
@@ -85,7 +85,7 @@ fn fetch_and_tell<D: Disk + Drop, H: NodeHash, N: Net + Clock, P: Watch, W: Writ
     ensures run { LeadsTo D.conduct H.digest engine.old engine.new }
 {
     let mut ends = vec![in alloc; PeerEnd::Untried; peers.len()]?;
-    let fetched = fetch_and_sync(alloc, dialler, engine, flush_every, ends.as_mut_slice());
+    let fetched = fetch_and_sync(alloc, dialler, engine, flushing, ends.as_mut_slice());
     dialler.watch.clear();
     let told = tell_peers(alloc, peers, ends.as_slice(), writer);
     fetched?;
@@ -93,17 +93,17 @@ fn fetch_and_tell<D: Disk + Drop, H: NodeHash, N: Net + Clock, P: Watch, W: Writ
     conclude(alloc, engine, writer)
 }
 
-/// By what peers are dialled, and what stands between them and their engine.
+/// By what peers are dialled, and what stands between them and the engine.
 #[derive(Drop)]
 struct Dialler<'a, N: Net + Clock, P: Watch> {
     net: &'a N,
     watch: &'a P,
-    /// The host of each peer, a name or an address, and its port.
+    /// The host of each peer, a name or an address, and the port.
     addresses: &'a [(&'a str, u16)],
     passage: Passage<'a>,
 }
 
-/// Where each peer is reached, in their order.
+/// The host and the port of each peer, in their order.
 fn addresses_of<'a>(alloc: Global, peers: &'a [Peer<'a>]) -> Result<Vec<(&'a str, u16)>, AllocError>
     ensures { IfOk result (λ addresses. length addresses.items ≡ length peers.now) }
 {
@@ -114,33 +114,34 @@ fn addresses_of<'a>(alloc: Global, peers: &'a [Peer<'a>]) -> Result<Vec<(&'a str
     Ok(addresses)
 }
 
-/// Fetches from all peers at once, once or twice, and has all put on the devices, and into the log.
+/// Fetches from all peers at once, once or twice, and flushes the engine.
 fn fetch_and_sync<D: Disk + Drop, H: NodeHash, N: Net + Clock, P: Watch>(
     alloc: Global,
     dialler: &Dialler<'_, N, P>,
     engine: &mut Engine<D, H>,
-    flush_every: u64,
+    flushing: Flushing,
     ends: &mut [PeerEnd],
 ) -> Result<(), Fault>
     requires no_peer { engine.old.state.peers ≡ [] }
     requires each { length ends.old ≡ length dialler.now.addresses.now }
-    ensures fetched { OnOk result (FetchesAndSyncs D.conduct H.digest (length dialler.now.addresses.now)
+    ensures fetched { OnOk result (FetchesAndSyncs D.conduct H.digest
+        (length dialler.now.addresses.now)
         engine.old ends.new engine.new) }
     ensures each { length ends.new ≡ length ends.old }
     ensures cause { IfErr result (FailsAtOnce D.conduct H.digest engine.old) }
     ensures run { LeadsTo D.conduct H.digest engine.old engine.new }
 {
-    fetch_once_or_twice(alloc, dialler, engine, flush_every, ends)?;
+    fetch_once_or_twice(alloc, dialler, engine, flushing, ends)?;
     finish(engine)
 }
 
-/// Fetches from all peers at once. Where blocks are missing then though some came without their hashes, all are dialled
-/// once more, and how it ended with each is told of that.
+/// Fetches from all peers at once. Where blocks are missing then, though some came without their hashes, it dials all
+/// of them once more; `ends` are those of the last time.
 fn fetch_once_or_twice<D: Disk + Drop, H: NodeHash, N: Net + Clock, P: Watch>(
     alloc: Global,
     dialler: &Dialler<'_, N, P>,
     engine: &mut Engine<D, H>,
-    flush_every: u64,
+    flushing: Flushing,
     ends: &mut [PeerEnd],
 ) -> Result<(), Fault>
     requires no_peer { engine.old.state.peers ≡ [] }
@@ -152,19 +153,19 @@ fn fetch_once_or_twice<D: Disk + Drop, H: NodeHash, N: Net + Clock, P: Watch>(
     ensures cause { IfErr result (FailsAtOnce D.conduct H.digest engine.old) }
     ensures run { LeadsTo D.conduct H.digest engine.old engine.new }
 {
-    if fetch_once(alloc, dialler, engine, flush_every, ends)? {
-        fetch_once(alloc, dialler, engine, flush_every, ends)?;
+    if fetch_once(alloc, dialler, engine, flushing, ends)? {
+        fetch_once(alloc, dialler, engine, flushing, ends)?;
     }
     Ok(())
 }
 
-/// Dials all peers, fetches from them at once, and takes in what came without hashes. Says whether blocks are missing
-/// still though some came so.
+/// Dials all peers, fetches from them at once, and takes in what came without hashes. Gives whether blocks are
+/// missing still though something was taken in so.
 fn fetch_once<D: Disk + Drop, H: NodeHash, N: Net + Clock, P: Watch>(
     alloc: Global,
     dialler: &Dialler<'_, N, P>,
     engine: &mut Engine<D, H>,
-    flush_every: u64,
+    flushing: Flushing,
     ends: &mut [PeerEnd],
 ) -> Result<bool, Fault>
     requires no_peer { engine.old.state.peers ≡ [] }
@@ -186,13 +187,13 @@ fn fetch_once<D: Disk + Drop, H: NodeHash, N: Net + Clock, P: Watch>(
         dialler.passage,
         &seats,
     )?;
-    let fetched = fetch_through(alloc, engine, &mut gate, flush_every);
+    let fetched = fetch_through(alloc, engine, &mut gate, flushing);
     ends.copy_from_slice(gate.ends());
     gate.take_leave();
     fetched
 }
 
-/// A gate from which all peers are dialled. Errors: it can't be had.
+/// Opens a gate from which all peers are dialled. Errors: there can be no gate.
 fn dial_all<'a, N: Net + Clock, P: Watch>(
     alloc: Global,
     net: &'a N,
@@ -211,13 +212,13 @@ fn dial_all<'a, N: Net + Clock, P: Watch>(
     }
 }
 
-/// Fetches from all that come through a gate over sockets, by whatever door, and takes in what came without hashes. Says
-/// whether blocks are missing still though some came so.
+/// Fetches from all peers that come through a gate over sockets, by whatever door, and takes in what came without
+/// hashes. Gives whether blocks are missing still though something was taken in so.
 fn fetch_through<'a, D: Disk + Drop, H: NodeHash, E: Door, C: Clock, P: Watch>(
     alloc: Global,
     engine: &mut Engine<D, H>,
     gate: &mut TcpGate<'a, E, C, P>,
-    flush_every: u64,
+    flushing: Flushing,
 ) -> Result<bool, Fault>
     requires no_peer { engine.old.state.peers ≡ [] }
     requires unwaited { gate.old.waits ≡ 0 }
@@ -229,5 +230,5 @@ fn fetch_through<'a, D: Disk + Drop, H: NodeHash, E: Door, C: Clock, P: Watch>(
     ensures cause { IfErr result (FailsAtOnce D.conduct H.digest engine.old) }
     ensures run { LeadsTo D.conduct H.digest engine.old engine.new }
 {
-    fetch_at_once(alloc, engine, gate, flush_every)
+    fetch_at_once(alloc, engine, gate, flushing)
 }

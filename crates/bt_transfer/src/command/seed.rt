@@ -29,6 +29,7 @@ use bt_disk::Disk;
 use bt_engine::{Engine, whole_runs_keep_promises};
 use bt_files::{FileUse, finish, load_store, write_report};
 use bt_progress::{FileCall, Watch};
+use bt_session::Flushing;
 use bt_sockets::{Passage, Shared, listen, port_of, tell_address};
 use bt_tree::NodeHash;
 use bt_words::{Service, Serving};
@@ -38,27 +39,27 @@ use std::net::{Net, OpenListener};
 use std::rt::Files;
 use std::time::Clock;
 
-/// Opens the store of a torrent's files in a folder, as `load_store` does; listens, and writes at which port;
-/// and serves connections, whatever came of others, each with a line that tells how it ended. The answer is the program's
-/// status, 0.
+/// Opens the store of a torrent's files in the folder `dir`, as `load_store` does; listens, and writes at which port;
+/// and serves connections, whatever came of others, each with a line that tells how it ended. Gives the status of the
+/// program, 0.
 ///
-/// Where they are served one after the other, all is put on the devices after each, and before its line, and what is known
-/// of it into the log, where the path of one is given. Where up to 64 are served at once, the line of each comes as it
-/// goes, and all is put there as soon as nobody is there any more; with a log also after each 2,048 turns of all together.
-/// So it is at the end, also where none is served.
+/// One after the other: after each connection it flushes the engine, and then writes the connection's line. At once,
+/// up to 64: it writes the line of each connection as that goes, and flushes the engine as soon as nobody is there
+/// any more, and with a log, whose path is `log`, also after each 2,048 turns of all together. It flushes the engine
+/// at the end too, also where no connection was served.
 ///
-/// Where all files are complete at first, none is written from then on, but the log is: a session ends in which a block
-/// comes for one of them. Where they are only to be read and are not complete, nothing is served: the report is
-/// written, that nothing is served is told, and the answer is 1.
+/// Where all files are complete as it begins, no file is written from then on, but the log is: a session ends in
+/// which a block comes for one of them. Where the files are only to be read, and not all are complete, nothing is
+/// served: it writes how far the files are, tells the watch that nothing is served, and gives 1.
 ///
-/// It is told how much is read: first of what the files have, and then for peers, where it is not known how much
-/// that will be. Between the two a hint tells where files are not complete.
+/// The watch is told how many bytes are read: first of what the files have, and then for peers, where it is not known
+/// how many that will be. Between the two a hint tells where files are not complete.
 ///
-/// A session ends where a device refuses a write. Where that was so of one of them, and files are not complete, the
-/// device's fault comes at the end.
+/// A session ends where a device refuses a write. Where that came in a session, and not all files are complete, the
+/// device's fault is told at the end.
 ///
-/// Errors: the torrent or the log is refused, two of the torrent's paths are one file that may be written, or the port
-/// can't be had, and then nothing is printed; a device, the writer or the socket failed; out of memory; the log is
+/// Errors: the torrent or the log is refused, two paths of the torrent are one file that may be written, or the port
+/// can't be had, and then nothing is written; a device, the writer or the socket failed; out of memory; the log is
 /// full.
 pub fn seed<R: Files + AllocGlobal + Clone + Drop, N: Net + Clock, P: Watch, W: Write>(
     rt: &R,
@@ -78,7 +79,8 @@ pub fn seed<R: Files + AllocGlobal + Clone + Drop, N: Net + Clock, P: Watch, W: 
     ensures refused { IfErr result (λ fault. status_of fault ≡ 2 → fault ≢ log_full
         → Keeps (W.contents writer.old) (W.contents writer.new)) }
     ensures full { IfErr result (λ fault. fault ≡ log_full
-        → HasFilledLog source.entry.is_info (seed_use service.entry.is_read_only) dir.now log.entry) }
+        → HasFilledLog source.entry.is_info (seed_use service.entry.is_read_only) dir.now
+        log.entry) }
 {
     let shared = Shared::new(rt.alloc())?;
     let seal = Seal::new();
@@ -91,7 +93,7 @@ pub fn seed<R: Files + AllocGlobal + Clone + Drop, N: Net + Clock, P: Watch, W: 
         return report_lack(rt.alloc(), watch, engine, writer);
     }
     close_if_complete(&seal, is_complete);
-    let flush_every = seed_turns(log);
+    let flushing = seed_flushing(log);
     seed_store(
         rt.alloc(),
         net,
@@ -99,17 +101,16 @@ pub fn seed<R: Files + AllocGlobal + Clone + Drop, N: Net + Clock, P: Watch, W: 
         engine,
         &shared,
         service,
-        flush_every,
+        flushing,
         writer,
     )
 }
 
-/// After how many turns of all together a seed that serves many at once flushes, though somebody is there: without a log
-/// it never does, for which the greatest number stands.
-fn seed_turns(log: Option<&str>) -> u64 {
+/// When a seed that serves many at once flushes though somebody is there: without a log as seldom as can be.
+fn seed_flushing(log: Option<&str>) -> Flushing {
     match log {
-        Some(_) => FLUSH_TURNS,
-        None => u64::MAX,
+        Some(_) => Flushing::Each(FLUSH_TURNS),
+        None => Flushing::Each(u32::MAX),
     }
 }
 
@@ -124,22 +125,23 @@ fn seed_use(is_read_only: bool) -> FileUse
     }
 }
 
-/// Whether nothing is served: what lacks may not be written, and not all is complete.
+/// Whether nothing is served: the files are only to be read, and not all are complete.
 fn is_lacking(is_read_only: bool, is_complete: bool) -> bool
     ensures { result ≡ (is_read_only && not is_complete) }
 {
     is_read_only && !is_complete
 }
 
-/// Closes a seal where all files are complete. What it serves the seed has then: a block that it finds damaged may be
-/// the user's own change, over which nothing is to be written.
+/// Closes the seal of the files where all are complete. All that the seed serves is there then: a block that it finds
+/// damaged may be the user's own change, over which nothing is to be written.
 fn close_if_complete(seal: &Seal, is_complete: bool) {
     if is_complete {
         seal.close();
     }
 }
 
-/// Reports how far the files of an engine are, which it takes, and tells that nothing is served. The answer is 1.
+/// Writes how far the files of an engine are, which it takes, and tells the watch that nothing is served. Gives the
+/// status of the program, 1.
 fn report_lack<D: Disk + Drop, H: NodeHash, P: Watch, W: Write>(
     alloc: Global,
     watch: &P,
@@ -158,8 +160,8 @@ fn report_lack<D: Disk + Drop, H: NodeHash, P: Watch, W: Write>(
     Ok(1)
 }
 
-/// Tells what is lacking, listens, and serves connections to an engine that began with a torrent, which it takes.
-/// What stands before the sockets goes by that torrent. The answer is 0.
+/// Hints at what the files lack, listens, and serves connections to an engine, which it takes and which began with a
+/// torrent. What stands before the sockets is made for the engine's torrent. Gives the status of the program, 0.
 fn seed_store<D: Disk + Drop, H: NodeHash, N: Net + Clock, P: Watch, W: Write>(
     alloc: Global,
     net: &N,
@@ -167,7 +169,7 @@ fn seed_store<D: Disk + Drop, H: NodeHash, N: Net + Clock, P: Watch, W: Write>(
     engine: Engine<D, H>,
     shared: &Shared,
     service: Service<'_>,
-    flush_every: u64,
+    flushing: Flushing,
     writer: &mut W,
 ) -> Result<u8, Fault>
     requires no_peer { engine.state.peers ≡ [] }
@@ -180,7 +182,8 @@ fn seed_store<D: Disk + Drop, H: NodeHash, N: Net + Clock, P: Watch, W: Write>(
         × FailsToSeed D.conduct H.digest engine fault last) }
     ensures fault { IfErr result (IsEndFault engine.log) }
 {
-    // These calls say what holds of the engine, and of whatever led to it and leads on from it.
+    // The contracts of these calls say what holds of the engine, of all that led to it, and of all that leads on from
+    // it.
     engine.keeps_laws();
     whole_runs_keep_promises(&engine);
     let mut engine = engine;
@@ -200,14 +203,14 @@ fn seed_store<D: Disk + Drop, H: NodeHash, N: Net + Clock, P: Watch, W: Write>(
         &mut engine,
         passage,
         service,
-        flush_every,
+        flushing,
         writer,
     )?;
     Ok(0)
 }
 
-/// At a terminal, and where that was asked for, tells that blocks are missing, since a folder may be another than was
-/// meant.
+/// Hints, at a terminal and where hints were asked for, that blocks are missing, since the folder may be another one
+/// than was meant.
 fn hint_at_lack<P: Watch, D: Disk + Drop, H: NodeHash>(watch: &P, engine: &Engine<D, H>) {
     if watch.is_verbose() && !engine.is_complete() {
         watch.hint(
@@ -216,7 +219,7 @@ fn hint_at_lack<P: Watch, D: Disk + Drop, H: NodeHash>(watch: &P, engine: &Engin
     }
 }
 
-/// Listens, tells where, writes at which port, and serves connections to an engine of a torrent.
+/// Listens, tells the watch where, writes at which port, and serves connections to an engine.
 fn listen_and_serve<D: Disk + Drop, H: NodeHash, N: Net + Clock, P: Watch, W: Write>(
     alloc: Global,
     net: &N,
@@ -224,11 +227,12 @@ fn listen_and_serve<D: Disk + Drop, H: NodeHash, N: Net + Clock, P: Watch, W: Wr
     engine: &mut Engine<D, H>,
     passage: Passage<'_>,
     service: Service<'_>,
-    flush_every: u64,
+    flushing: Flushing,
     writer: &mut W,
 ) -> Result<(), Fault>
     requires no_peer { engine.old.state.peers ≡ [] }
-    requires own_short_blocks { passage.short_blocks.now ≡ short_blocks_of engine.old.state.torrent }
+    requires own_short_blocks { passage.short_blocks.now
+        ≡ short_blocks_of engine.old.state.torrent }
     requires own_pieces { passage.pieces ≡ total_pieces engine.old.state.torrent }
     ensures run { LeadsTo D.conduct H.digest engine.old engine.new }
     ensures served { OnOk result (HasListened D.conduct H.digest service.entry
@@ -252,13 +256,14 @@ fn listen_and_serve<D: Disk + Drop, H: NodeHash, N: Net + Clock, P: Watch, W: Wr
         &reception,
         engine,
         service.serving,
-        flush_every,
+        flushing,
         bell,
         writer,
     )
 }
 
-/// Writes at which port connections are waited for, of a listener that was asked for one.
+/// Writes at which port a listener waits for connections, which was asked for the port `asked`. Errors: as
+/// `port_for`; the writer failed; out of memory.
 fn announce<L: OpenListener, W: Write>(
     alloc: Global,
     listener: &L,
@@ -273,8 +278,8 @@ fn announce<L: OpenListener, W: Write>(
     tell_port(alloc, port, writer)
 }
 
-/// The port at which a listener listens that was asked for one, or with 0 for any. Errors: the system does not tell it,
-/// or tells another.
+/// The port at which a listener waits for connections. It was asked for the port `asked`, which is 0 for any port.
+/// Errors: the system does not tell the port, or tells another than was asked for.
 fn port_for<L: OpenListener>(listener: &L, asked: u16) -> Result<u16, Fault>
     ensures port { IfOk result (IsPortFor asked) }
     ensures fault { IfErr result (λ fault. fault ≡ device) }
@@ -286,7 +291,7 @@ fn port_for<L: OpenListener>(listener: &L, asked: u16) -> Result<u16, Fault>
     Ok(port)
 }
 
-/// Writes the line of a port.
+/// Writes the line of a port. Errors: the writer failed; out of memory.
 fn tell_port<W: Write>(alloc: Global, port: u16, writer: &mut W) -> Result<(), Fault>
     ensures told { OnOk result
         (Appends (W.contents writer.old) (W.contents writer.new) (listening_line port)) }
@@ -297,7 +302,7 @@ fn tell_port<W: Write>(alloc: Global, port: u16, writer: &mut W) -> Result<(), F
     print(writer, line.as_str())
 }
 
-/// Adds the line of a port.
+/// Adds the line of a port to a text. Errors: out of memory.
 fn push_line(line: &mut String, port: u16) -> Result<(), AllocError>
     ensures { OnOk result (string_bytes line.new ≡ string_bytes line.old ++ listening_line port) }
 {
@@ -305,14 +310,14 @@ fn push_line(line: &mut String, port: u16) -> Result<(), AllocError>
     writeln!(line, "listening {port}")
 }
 
-/// Serves as many connections as is said, one after the other or at once: where no count is given, all that can be
-/// numbered.
+/// Serves as many connections as `serving` says, one after the other or at once; where it gives no count, all that
+/// can be numbered.
 fn serve_as_said<D: Disk + Drop, H: NodeHash, N: Net + Clock, P: Watch, W: Write>(
     alloc: Global,
     reception: &Reception<'_, N, P>,
     engine: &mut Engine<D, H>,
     serving: Serving,
-    flush_every: u64,
+    flushing: Flushing,
     writer: &mut W,
 ) -> Result<(), Fault>
     requires no_peer { engine.old.state.peers ≡ [] }
@@ -327,22 +332,20 @@ fn serve_as_said<D: Disk + Drop, H: NodeHash, N: Net + Clock, P: Watch, W: Write
         Serving::Count(count) => serve_each(alloc, reception, engine, u64::from(count), writer),
         Serving::Together(count) => {
             let count = u64::from(count);
-            serve_at_once(alloc, reception, engine, count, flush_every, writer)
+            serve_at_once(alloc, reception, engine, count, flushing, writer)
         }
-        Serving::Forever => {
-            serve_at_once(alloc, reception, engine, u64::MAX, flush_every, writer)
-        }
+        Serving::Forever => { serve_at_once(alloc, reception, engine, u64::MAX, flushing, writer) }
     }
 }
 
-/// Serves as many connections as is said, and has all put on the devices, and into the log; then it hears a bell.
-/// Errors: also where that rang, since a device refused a write, and files are not complete.
+/// Serves as many connections as `serving` says, and flushes the engine; then it hears the bell. Errors: also where
+/// the bell rang, since a device refused a write, and not all files are complete.
 fn serve_all<D: Disk + Drop, H: NodeHash, N: Net + Clock, P: Watch, B: Bell, W: Write>(
     alloc: Global,
     reception: &Reception<'_, N, P>,
     engine: &mut Engine<D, H>,
     serving: Serving,
-    flush_every: u64,
+    flushing: Flushing,
     bell: &B,
     writer: &mut W,
 ) -> Result<(), Fault>
@@ -355,7 +358,7 @@ fn serve_all<D: Disk + Drop, H: NodeHash, N: Net + Clock, P: Watch, B: Bell, W: 
     ensures run { LeadsTo D.conduct H.digest engine.old engine.new }
     ensures fault { IfErr result (IsEndFault engine.old.log) }
 {
-    serve_as_said(alloc, reception, engine, serving, flush_every, writer)?;
+    serve_as_said(alloc, reception, engine, serving, flushing, writer)?;
     // also where there was no connection
     finish(engine)?;
     hear(bell, engine.is_complete())

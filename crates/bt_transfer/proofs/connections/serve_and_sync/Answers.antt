@@ -10,16 +10,16 @@ use Rattle.bt_transfer.proofs.connections.serve_and_sync.Goals as goal
 
 pub returns-in_err-kept-clause-run : goal.returns-in_err-kept-clause-run
 returns-in_err-kept-clause-run g c =
-    both c.args.engine.now c.serve_one-met.new.engine c.finish-kept.new.engine c.serve_one-met.ensures.run c.finish-kept.ensures.run
+    both _ _ _ c.serve_one-met.ensures.run c.finish-kept.ensures.run
 
 pub returns-clause-run : goal.returns-clause-run
 returns-clause-run g c =
-    both c.args.engine.now c.serve_one-met.new.engine c.finish-kept.new.engine c.serve_one-met.ensures.run c.finish-kept.ensures.run
+    both _ _ _ c.serve_one-met.ensures.run c.finish-kept.ensures.run
 
 pub returns-in_err-kept-clause-fault : goal.returns-in_err-kept-clause-fault
 returns-in_err-kept-clause-fault g c =
     passed_on c.from_residual.result _ (IsEndFault c.args.engine.now.log) c.from_residual.ensures.1
-    (inl (flush_fault_before g.D.Disk.conduct g.H.NodeHash.digest c.serve_one-met.ensures.run _
+    (inl (flush_fault_before _ _ c.serve_one-met.ensures.run _
     (of_fault c.finish-kept.result _ _ c.in_err-kept.was c.finish-kept.ensures.fault)))
 
 pub returns-clause-fault : goal.returns-clause-fault
@@ -30,14 +30,12 @@ returns-clause-fault g c =
 pub returns-in_err-kept-clause-kept : goal.returns-in_err-kept-clause-kept
 returns-in_err-kept-clause-kept g c =
     passed_on c.from_residual.result _ _ c.from_residual.ensures.1
-    (fails_by_flush g.D.Disk.conduct g.H.NodeHash.digest c.args.engine.now c.serve_one-met.new.engine c.finish-kept.new.engine _
-    c.serve_one-met.ensures.run (of_fault c.finish-kept.result _ _ c.in_err-kept.was c.finish-kept.ensures.failed))
+    (fails_by_flush c.serve_one-met.ensures.run (of_fault c.finish-kept.result _ _ c.in_err-kept.was c.finish-kept.ensures.failed))
 
 pub returns-clause-kept : goal.returns-clause-kept
 returns-clause-kept g c =
     err_weaker c.tell_met-told.result _ _
-    (λ fault call. fails_by_call g.D.Disk.conduct g.H.NodeHash.digest c.args.engine.now c.serve_one-met.new.engine c.finish-kept.new.engine fault
-    c.serve_one-met.ensures.run c.in_ok-kept.ensures.flushed call)
+    (λ fault call. fails_by_call c.serve_one-met.ensures.run c.in_ok-kept.ensures.flushed call)
     (not_told c.serve_one-met.result c.tell_met-told.result c.serve_one-met.ensures.fault c.tell_met-told.ensures.fault)
 
 pub returns-clause-served : goal.returns-clause-served

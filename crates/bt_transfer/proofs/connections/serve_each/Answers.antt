@@ -18,20 +18,19 @@ loop-number-preserved g c = (
       (g.W.Write.contents c.loop-number.writer) (g.W.Write.contents c.serve_and_sync.new.writer) c.loop-number.invariant.0
       c.in_ok-serve_and_sync.ensures.served c.in_ok-serve_and_sync.ensures.told refl refl,
   c.in_ok-serve_and_sync.ensures.gone,
-  both c.args.engine.now c.loop-number.engine c.serve_and_sync.new.engine c.loop-number.invariant.2 c.serve_and_sync.ensures.run,
+  both _ _ _ c.loop-number.invariant.2 c.serve_and_sync.ensures.run,
 )
 
 pub returns-in_err-serve_and_sync-clause-run : goal.returns-in_err-serve_and_sync-clause-run
 returns-in_err-serve_and_sync-clause-run g c =
-    both c.args.engine.now c.loop-number.engine c.serve_and_sync.new.engine c.loop-number.invariant.2 c.serve_and_sync.ensures.run
+    both _ _ _ c.loop-number.invariant.2 c.serve_and_sync.ensures.run
 
 pub returns-in_err-serve_and_sync-clause-fault : goal.returns-in_err-serve_and_sync-clause-fault
 returns-in_err-serve_and_sync-clause-fault g c =
     passed_on c.from_residual.result _ (IsEndFault c.args.engine.now.log) c.from_residual.ensures.1
-    (end_fault_before g.D.Disk.conduct g.H.NodeHash.digest c.loop-number.invariant.2 _ c.in_err-serve_and_sync.ensures.fault)
+    (end_fault_before _ _ c.loop-number.invariant.2 _ c.in_err-serve_and_sync.ensures.fault)
 
 pub returns-in_err-serve_and_sync-clause-kept : goal.returns-in_err-serve_and_sync-clause-kept
 returns-in_err-serve_and_sync-clause-kept g c =
     passed_on c.from_residual.result _ _ c.from_residual.ensures.1
-    (fails_later g.D.Disk.conduct g.H.NodeHash.digest c.args.engine.now c.loop-number.engine c.serve_and_sync.new.engine _
-    c.loop-number.invariant.2 c.in_err-serve_and_sync.ensures.kept)
+    (fails_later c.loop-number.invariant.2 c.in_err-serve_and_sync.ensures.kept)

@@ -11,11 +11,8 @@ fetch_over-requires-clause-undialled g c =
 pub returns-clause-fetched : goal.returns-clause-fetched
 returns-clause-fetched g c = record {
   rest = c.fetch_over.new.links;
-  fetched = fetched_over_tcp g.D.Disk.conduct g.H.NodeHash.digest _ _ _
-      c.args.engine.now.state.torrent c.args.peers.now c.args.log c.flush_turns-every.result c.args.engine.now
-      c.args.links.now (g.W.Write.contents c.args.writer.now) (g.W.Write.contents c.fetch_over.new.writer) c.in_ok-status.status
-      c.fetch_over.new.links c.fetch_over.new.engine
-      c.requires.own_links c.flush_turns-every.ensures c.in_ok-status.ensures.fetched;
+  fetched = fetched_over_tcp _ _ _ _ _ _ c.args.engine.now.state.torrent c.args.peers.now c.args.log
+      c.requires.own_links c.fetch_flushing-flushing.ensures c.in_ok-status.ensures.fetched;
 }
 
 pub returns-in_err-hear-clause-full : goal.returns-in_err-hear-clause-full

@@ -23,7 +23,7 @@ returns-then-named-clause-fetched g c =
 
 pub returns-then-named-clause-full : goal.returns-then-named-clause-full
 returns-then-named-clause-full g c =
-    err_weaker c.fetch_together.result _ _ (full_at_once g.D.Disk.conduct g.H.NodeHash.digest c.args.engine.now) c.fetch_together.ensures.cause
+    err_weaker c.fetch_together.result _ _ full_at_once c.fetch_together.ensures.cause
 
 pub returns-clause-fetched : goal.returns-clause-fetched
 returns-clause-fetched g c =

@@ -33,15 +33,12 @@ returns-clause-broken_off g c =
 
 pub returns-clause-run : goal.returns-clause-run
 returns-clause-run g c =
-    both c.args.engine.now c.take_turns.new.engine c.conclude.new.engine c.take_turns.ensures.run c.conclude.ensures.run
+    both _ _ _ c.take_turns.ensures.run c.conclude.ensures.run
 
 pub returns-clause-fault : goal.returns-clause-fault
 returns-clause-fault g c =
-    err_weaker c.conclude.result _ _ (end_fault_before g.D.Disk.conduct g.H.NodeHash.digest c.take_turns.ensures.run) c.conclude.ensures.fault
+    err_weaker c.conclude.result _ _ (end_fault_before _ _ c.take_turns.ensures.run) c.conclude.ensures.fault
 
 pub returns-clause-full : goal.returns-clause-full
 returns-clause-full g c =
-    err_weaker c.conclude.result _ _
-    (λ fault fails. flush_full g.D.Disk.conduct g.H.NodeHash.digest c.args.engine.now c.take_turns.new.engine c.conclude.new.engine fault
-    c.take_turns.ensures.run fails)
-    c.conclude.ensures.failed
+    err_weaker c.conclude.result _ _ (λ fault fails. flush_full c.take_turns.ensures.run fails) c.conclude.ensures.failed

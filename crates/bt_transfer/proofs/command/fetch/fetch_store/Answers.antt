@@ -22,16 +22,16 @@ fetch_from_all-requires-clause-own_pieces g c = c.pieces.ensures.counted ∙ ap 
 
 pub returns-clause-fetched : goal.returns-clause-fetched
 returns-clause-fetched g c = λ torrent given attached filled begun. ok_weaker c.fetch_from_all.result _ _
-    (λ status fetched. ends_fetch g.D.Disk.conduct g.H.NodeHash.digest c.whole_runs_keep_promises.ensures.leads
+    (λ status fetched. ends_fetch _ _ c.whole_runs_keep_promises.ensures.leads
     c.args.engine c.fetch_from_all.new.engine c.keeps_laws.ensures.lawful
-    (both c.args.engine c.flush_first.new.engine c.fetch_from_all.new.engine c.flush_first.ensures.run c.fetch_from_all.ensures.run)
+    (both _ _ _ c.flush_first.ensures.run c.fetch_from_all.ensures.run)
     (g.W.Write.contents c.args.writer.now) (g.W.Write.contents c.fetch_from_all.new.writer) status torrent given attached filled begun c.args.named.are_together
     c.args.named.peers.now c.args.log c.flush_first.new.engine c.in_ok-flush_first.ensures.flushed fetched)
     c.fetch_from_all.ensures.fetched
 
 pub returns-clause-fault : goal.returns-clause-fault
 returns-clause-fault g c =
-    err_weaker c.fetch_from_all.result _ _ (end_fault_before g.D.Disk.conduct g.H.NodeHash.digest c.flush_first.ensures.run)
+    err_weaker c.fetch_from_all.result _ _ (end_fault_before _ _ c.flush_first.ensures.run)
     c.fetch_from_all.ensures.fault
 
 pub returns-in_err-flush_first-clause-fault : goal.returns-in_err-flush_first-clause-fault
@@ -48,6 +48,4 @@ returns-in_err-short_blocks-clause-full g c =
 
 pub returns-clause-full : goal.returns-clause-full
 returns-clause-full g c =
-    err_weaker c.fetch_from_all.result _ _
-    (λ fault found full. found_later g.D.Disk.conduct g.H.NodeHash.digest c.args.engine c.flush_first.new.engine c.flush_first.ensures.run (found full))
-    c.fetch_from_all.ensures.full
+    err_weaker c.fetch_from_all.result _ _ (λ fault found full. found_later c.flush_first.ensures.run (found full)) c.fetch_from_all.ensures.full

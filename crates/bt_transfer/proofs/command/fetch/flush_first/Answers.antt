@@ -22,10 +22,7 @@ returns-in-Some-clause-failed g c =
 
 pub returns-in-Some-clause-full : goal.returns-in-Some-clause-full
 returns-in-Some-clause-full g c =
-    err_weaker c.finish.result _ _
-    (λ fault refused. refused_full g.D.Disk.conduct g.H.NodeHash.digest c.args.engine.now c.args.engine.now c.finish.new.engine
-    refused.0 fault (none c.args.engine.now) refused.2 refused.1)
-    c.finish.ensures.failed
+    err_weaker c.finish.result _ _ (λ fault refused. refused_full (none c.args.engine.now) refused.2 refused.1) c.finish.ensures.failed
 
 pub returns-in-None-clause-flushed : goal.returns-in-None-clause-flushed
 returns-in-None-clause-flushed g c =

@@ -21,19 +21,16 @@ returns-in-Ok-clause-gone g c = ap (λ (s : EngineState). s.peers) c.finish.ensu
 
 pub returns-in-Ok-clause-run : goal.returns-in-Ok-clause-run
 returns-in-Ok-clause-run g c =
-    both c.args.engine.now c.take_in_behind.new.engine c.finish.new.engine c.in-Ok.ensures.run c.finish.ensures.run
+    both _ _ _ c.in-Ok.ensures.run c.finish.ensures.run
 
 pub returns-in-Ok-clause-fault : goal.returns-in-Ok-clause-fault
 returns-in-Ok-clause-fault g c =
     err_weaker c.finish.result _ _
-    (λ fault failed. inl (flush_fault_before g.D.Disk.conduct g.H.NodeHash.digest c.in-Ok.ensures.run fault failed)) c.finish.ensures.fault
+    (λ fault failed. inl (flush_fault_before _ _ c.in-Ok.ensures.run fault failed)) c.finish.ensures.fault
 
 pub returns-in-Ok-clause-full : goal.returns-in-Ok-clause-full
 returns-in-Ok-clause-full g c =
-    err_weaker c.finish.result _ _
-    (λ fault refused. refused_full g.D.Disk.conduct g.H.NodeHash.digest c.args.engine.now c.take_in_behind.new.engine c.finish.new.engine
-    refused.0 fault c.in-Ok.ensures.run refused.2 refused.1)
-    c.finish.ensures.failed
+    err_weaker c.finish.result _ _ (λ fault refused. refused_full c.in-Ok.ensures.run refused.2 refused.1) c.finish.ensures.failed
 
 pub returns-in-Err-clause-behind : goal.returns-in-Err-clause-behind
 returns-in-Err-clause-behind g c =
@@ -46,7 +43,7 @@ returns-in-Err-clause-gone g c = ap (λ (s : EngineState). s.peers) c.finish-in-
 
 pub returns-in-Err-clause-run : goal.returns-in-Err-clause-run
 returns-in-Err-clause-run g c =
-    both c.args.engine.now c.take_in_behind.new.engine c.finish-in-Err.new.engine c.in-Err.ensures.run c.finish-in-Err.ensures.run
+    both _ _ _ c.in-Err.ensures.run c.finish-in-Err.ensures.run
 
 pub returns-in-Err-clause-fault : goal.returns-in-Err-clause-fault
 returns-in-Err-clause-fault g c =

@@ -33,7 +33,7 @@ loop-i-preserved g c = record {
       (sym c.is_complete.ensures ∙ c.if-is_complete.false) c.try_peer-end.ensures.tried c.in_ok-kept.was c.tell_peer-written.ensures.before
       c.tell_peer-written.ensures.text c.loop-i.invariant.tried;
   call = not_written c.loop-i.written c.tell_peer-written.result c.loop-i.invariant.call c.tell_peer-written.ensures.fault;
-  run = both c.args.engine.now c.loop-i.engine c.try_peer-end.new.engine c.loop-i.invariant.run c.try_peer-end.ensures.run;
+  run = both _ _ _ c.loop-i.invariant.run c.try_peer-end.ensures.run;
 }
 
 pub returns-after-loop-i-clause-told : goal.returns-after-loop-i-clause-told
@@ -80,16 +80,15 @@ returns-in_err-kept-clause-stopped g c =
 
 pub returns-in_err-kept-clause-run : goal.returns-in_err-kept-clause-run
 returns-in_err-kept-clause-run g c =
-    both c.args.engine.now c.loop-i.engine c.try_peer-end.new.engine c.loop-i.invariant.run c.try_peer-end.ensures.run
+    both _ _ _ c.loop-i.invariant.run c.try_peer-end.ensures.run
 
 pub returns-in_err-kept-clause-fault : goal.returns-in_err-kept-clause-fault
 returns-in_err-kept-clause-fault g c =
     passed_on c.from_residual.result _ (IsEndFault c.args.engine.now.log) c.from_residual.ensures.1
-    (end_fault_before g.D.Disk.conduct g.H.NodeHash.digest c.loop-i.invariant.run _
+    (end_fault_before _ _ c.loop-i.invariant.run _
     (of_fault c.try_peer-end.result.1 _ _ c.in_err-kept.was c.try_peer-end.ensures.fault))
 
 pub returns-in_err-kept-clause-full : goal.returns-in_err-kept-clause-full
 returns-in_err-kept-clause-full g c =
     passed_on c.from_residual.result _ _ c.from_residual.ensures.1
-    (λ full. found_later g.D.Disk.conduct g.H.NodeHash.digest c.args.engine.now c.loop-i.engine c.loop-i.invariant.run
-    (of_fault c.try_peer-end.result.1 _ _ c.in_err-kept.was c.try_peer-end.ensures.full full))
+    (λ full. found_later c.loop-i.invariant.run (of_fault c.try_peer-end.result.1 _ _ c.in_err-kept.was c.try_peer-end.ensures.full full))

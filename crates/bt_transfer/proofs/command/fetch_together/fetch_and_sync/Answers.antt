@@ -3,4 +3,4 @@ use Rattle.bt_transfer.proofs.command.fetch_together.fetch_and_sync.Goals as goa
 
 pub returns-clause-run : goal.returns-clause-run
 returns-clause-run g c =
-    both c.args.engine.now c.fetch_once_or_twice.new.engine c.finish.new.engine c.fetch_once_or_twice.ensures.run c.finish.ensures.run
+    both _ _ _ c.fetch_once_or_twice.ensures.run c.finish.ensures.run

@@ -8,11 +8,8 @@ returns-in_err-ends-clause-run g c = none c.args.engine.now
 
 pub returns-clause-run : goal.returns-clause-run
 returns-clause-run g c =
-    both c.args.engine.now c.fetch_and_sync-fetched.new.engine c.conclude.new.engine c.fetch_and_sync-fetched.ensures.run c.conclude.ensures.run
+    both _ _ _ c.fetch_and_sync-fetched.ensures.run c.conclude.ensures.run
 
 pub returns-clause-cause : goal.returns-clause-cause
 returns-clause-cause g c =
-    err_weaker c.conclude.result _ _
-    (λ fault fails. concluding_fails g.D.Disk.conduct g.H.NodeHash.digest c.args.engine.now c.fetch_and_sync-fetched.new.engine c.conclude.new.engine fault
-    c.fetch_and_sync-fetched.ensures.run fails)
-    c.conclude.ensures.failed
+    err_weaker c.conclude.result _ _ (λ fault fails. concluding_fails fault c.fetch_and_sync-fetched.ensures.run fails) c.conclude.ensures.failed

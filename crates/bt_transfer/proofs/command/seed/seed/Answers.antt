@@ -1,7 +1,5 @@
 use Rattle.std.proofs.Common.{◌⊎◌, inl, inr, refl, sym, subst, ◌∙◌}
-use Rattle.sha2.specs.Sha256.{sha256}
 use Rattle.bt_files.specs.Loading.{IsLoaded, IsLogFull, IsStoreFault}
-use Rattle.bt_files.specs.Store.{device_conduct}
 use Rattle.bt_files.proofs.Faults.{ok_weaker, err_weaker, end_not_refused, not_refused, passed_on, while_loading}
 use Rattle.bt_transfer.specs.Seed.{seed_use}
 use Rattle.bt_transfer.proofs.EndFaults.{at_opening, call_not_full, store_not_full, told_at_end}
@@ -95,5 +93,5 @@ returns-clause-full g c =
     (c.device_context-context.ensures ∙ c.seed_use.ensures) c.in_ok-engine.ensures.loaded in
     err_weaker c.seed_store.result _ _
     (λ fault stopped full. filled_log c.args.source.is_info (seed_use c.args.service.is_read_only) c.args.dir.now c.args.log c.in_ok-engine.engine
-    loaded (full_seed device_conduct sha256 c.in_ok-engine.engine stopped.0 fault stopped.1 full))
+    loaded (full_seed fault stopped.1 full))
     c.seed_store.ensures.stopped

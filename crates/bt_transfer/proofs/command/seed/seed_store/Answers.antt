@@ -13,7 +13,7 @@ listen_and_serve-requires-clause-own_pieces g c = c.pieces.ensures.counted ∙ a
 
 pub returns-clause-listened : goal.returns-clause-listened
 returns-clause-listened g c = λ torrent given attached filled begun.
-    ends_seed g.D.Disk.conduct g.H.NodeHash.digest c.whole_runs_keep_promises.ensures.leads
+    ends_seed _ _ c.whole_runs_keep_promises.ensures.leads
     c.args.engine c.listen_and_serve.new.engine c.keeps_laws.ensures.lawful c.listen_and_serve.ensures.run (g.W.Write.contents c.args.writer.now)
     (g.W.Write.contents c.listen_and_serve.new.writer) 0 torrent given attached filled begun c.args.service c.in_ok-listen_and_serve.ensures.served refl
 

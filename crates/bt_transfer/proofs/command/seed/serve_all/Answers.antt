@@ -15,16 +15,16 @@ returns-clause-served g c = on_ok c.hear.result _ (record {
 
 pub returns-in_err-finish-clause-run : goal.returns-in_err-finish-clause-run
 returns-in_err-finish-clause-run g c =
-    both c.args.engine.now c.serve_as_said.new.engine c.finish.new.engine c.serve_as_said.ensures.run c.finish.ensures.run
+    both _ _ _ c.serve_as_said.ensures.run c.finish.ensures.run
 
 pub returns-clause-run : goal.returns-clause-run
 returns-clause-run g c =
-    both c.args.engine.now c.serve_as_said.new.engine c.finish.new.engine c.serve_as_said.ensures.run c.finish.ensures.run
+    both _ _ _ c.serve_as_said.ensures.run c.finish.ensures.run
 
 pub returns-in_err-finish-clause-fault : goal.returns-in_err-finish-clause-fault
 returns-in_err-finish-clause-fault g c =
     passed_on c.from_residual-in_err-finish.result _ (IsEndFault c.args.engine.now.log) c.from_residual-in_err-finish.ensures.1
-    (inl (flush_fault_before g.D.Disk.conduct g.H.NodeHash.digest c.serve_as_said.ensures.run _ c.in_err-finish.ensures.fault))
+    (inl (flush_fault_before _ _ c.serve_as_said.ensures.run _ c.in_err-finish.ensures.fault))
 
 pub returns-clause-fault : goal.returns-clause-fault
 returns-clause-fault g c =
@@ -33,12 +33,9 @@ returns-clause-fault g c =
 pub returns-in_err-finish-clause-kept : goal.returns-in_err-finish-clause-kept
 returns-in_err-finish-clause-kept g c =
     passed_on c.from_residual-in_err-finish.result _ _ c.from_residual-in_err-finish.ensures.1
-    (inl (fails_by_flush g.D.Disk.conduct g.H.NodeHash.digest c.args.engine.now c.serve_as_said.new.engine c.finish.new.engine _
-    c.serve_as_said.ensures.run c.in_err-finish.ensures.failed))
+    (inl (fails_by_flush c.serve_as_said.ensures.run c.in_err-finish.ensures.failed))
 
 pub returns-clause-kept : goal.returns-clause-kept
 returns-clause-kept g c =
-    err_weaker c.hear.result _ _
-    (λ fault rang. inl (fails_by_call g.D.Disk.conduct g.H.NodeHash.digest c.args.engine.now c.serve_as_said.new.engine c.finish.new.engine fault
-    c.serve_as_said.ensures.run c.in_ok-finish.ensures.flushed (inl rang.0)))
+    err_weaker c.hear.result _ _ (λ fault rang. inl (fails_by_call c.serve_as_said.ensures.run c.in_ok-finish.ensures.flushed (inl rang.0)))
     c.hear.ensures.fault
