@@ -1,5 +1,5 @@
 -- What the digests that come with a key claim (BEP 52, "hashes").
-use Rattle.std.specs.Prelude.{◌≡◌, ℕ, ◌*◌, ◌/◌, ◌%◌, ◌^◌, ◌≤◌, List, length}
+use Rattle.std.specs.Prelude.{◌≡◌, ℕ, ◌+◌, ◌*◌, ◌/◌, ◌%◌, ◌^◌, ◌≤◌, List, length}
 use Rattle.std.specs.Simd.{first_chunks}
 use Rattle.bt_tree.specs.Limits.{digest_length, max_height}
 use Rattle.bt_tree.specs.TreeShape.{height_of}
@@ -21,6 +21,10 @@ pub record HasShape (k : HashKey) : Type 0 where
   pub aligned : k.index % k.length ≡ 0
   pub base : k.base ≤ max_height
   pub layers : k.layers ≤ max_height
+
+-- no key names more digests: those of the longest run, and an uncle for each layer of the highest tree
+abbrev pub max_digests : ℕ
+max_digests = max_run_length + max_height
 
 -- as many digests as the key names, one after the other
 abbrev pub HasSize : HashKey → List ℕ → Type 0

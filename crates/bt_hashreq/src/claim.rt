@@ -3,7 +3,7 @@
 ghost use Rattle.std.specs.Prelude.{◌≡◌, ◌↔◌, ◌≤◌, IsSome, IfOk, IfErr, IfSome};
 ghost use Rattle.bt_tree.specs.TreeShape.{height_of};
 ghost use Rattle.bt_sparse.specs.Answer.{answer_size};
-ghost use Rattle.bt_hashreq.specs.Claim.{IsRunLength, HasShape, IsClaimBy, IsNoClaim};
+ghost use Rattle.bt_hashreq.specs.Claim.{IsRunLength, HasShape, IsClaimBy, IsNoClaim, max_digests};
 
 use crate::key::HashKey;
 use bt_sparse::{Claim, Digests, MAX_RUN_LENGTH, ProofError};
@@ -12,6 +12,10 @@ use std::alloc::Global;
 
 /// The height of the longest file's tree, 2^40 bytes.
 const MAX_HEIGHT: u32 = 26;
+
+/// No key names more digests: those of the longest run, and an uncle for each layer of the highest tree, 538. None
+/// names as many, since the eight lowest layers above the longest run have no uncle, so 530 are the most.
+pub const MAX_DIGESTS: u32 = MAX_RUN_LENGTH + MAX_HEIGHT;
 
 /// What the digests that come with a key claim of the key's tree: those of the run, from the left, and then
 /// those of the uncles, from the lowest layer up, 32 bytes each. A run of 2^m nodes has one uncle for each
@@ -58,7 +62,7 @@ pub fn digest_count(key: &HashKey) -> Option<u32>
     ensures some { IsSome result ↔ HasShape key.now }
     ensures count { IfSome result (λ count. count ≡ answer_size key.now.length key.now.layers) }
     ensures within { IfSome result (λ count. key.now.length ≤ count) }
-    ensures limit { IfSome result (λ count. count ≤ 538) }
+    ensures limit { IfSome result (λ count. count ≤ max_digests) }
 {
     let height = run_height(key.length)?;
     if key.index % key.length != 0 || key.base > MAX_HEIGHT || key.layers > MAX_HEIGHT {

@@ -1,6 +1,6 @@
 //! The key of a hash message (BEP 52): which digests of a tree it names, and the 48 bytes that spell it.
 ghost use Rattle.std.specs.Prelude.{◌≡◌, ◌↔◌, length, IsSome, IfSome};
-ghost use Rattle.bt_hashreq.specs.Key.{key_length, key_spelling};
+ghost use Rattle.bt_hashreq.specs.Key.{key_length, key_spelling, IsKey};
 
 use crate::fields::{number_at, put};
 use bt_tree::Hash32;
@@ -32,16 +32,25 @@ pub fn read_key(bytes: &[u8]) -> Option<HashKey>
     if bytes.len() != KEY_LEN {
         return None;
     }
+    Some(whole_key(bytes))
+}
+
+/// The key that these 48 bytes spell, as `read_key` reads it.
+pub fn whole_key(bytes: &[u8]) -> HashKey
+    requires { length bytes.now ≡ key_length }
+    ensures spelled { key_spelling result ≡ bytes.now }
+    ensures numbers { IsKey result }
+{
     let (front, numbers) = bytes.split_at(32);
     let mut root = [0; 32];
     root.copy_from_slice(front);
-    Some(HashKey {
+    HashKey {
         root,
         base: number_at(numbers, 0),
         index: number_at(numbers, 4),
         length: number_at(numbers, 8),
         layers: number_at(numbers, 12),
-    })
+    }
 }
 
 /// The bytes that spell a key, as `read_key` reads them.

@@ -8,8 +8,8 @@ mod key;
 mod law;
 mod request;
 
-pub use claim::{digest_count, to_claim};
+pub use claim::{MAX_DIGESTS, digest_count, to_claim};
 pub use fields::{number_at, put};
-pub use key::{HashKey, KEY_LEN, read_key, write_key};
+pub use key::{HashKey, KEY_LEN, read_key, whole_key, write_key};
 pub use law::{keys_are_read_back, plans_are_lawful, plans_teach};
 pub use request::{MAX_RUN_HEIGHT, plan};

@@ -12,6 +12,7 @@ use Rattle.bt_resume.specs.declared.contents.Contents.{Contents}
 use Rattle.bt_resume.specs.declared.contents.End.{End}
 use Rattle.bt_resume.specs.declared.error.LogError.{LogError}
 use Rattle.bt_resume.specs.declared.error.LogError.TheVariants.{OtherTorrent, TooLong, Device, OutOfMemory}
+use Rattle.bt_resume.specs.Limits.{max_hint_length}
 use Rattle.bt_resume.specs.Hint.{hint_spelling, IsHint, BeginsNoHint}
 use Rattle.bt_resume.specs.LogText.{LogText, of_two, format_of, header, body_spelling, text_length, IsText, EndsIn, IsBody, IsLog, HasHeader, IsOther, BeginsIn, empty_text, joined_text}
 use Rattle.bt_resume.specs.ResumeLog.{OfBytes, Reads, read, other_torrent, too_long, no_memory, no_length, no_header, unread, Opens, opened, made, unwritten, unsynced}
@@ -23,18 +24,18 @@ use Rattle.bt_resume.proofs.Takings.{hint_is_short}
 -- ---- windows
 
 -- a part of the bytes that begins with no hint, and would hold one, tells that they begin with none
-no_hint_tells : (f : Format) (bytes : List ℕ) (room : ℕ) → min 17265 (length bytes) ≤ room → BeginsNoHint f (take room bytes) → BeginsNoHint f bytes
+no_hint_tells : (f : Format) (bytes : List ℕ) (room : ℕ) → min max_hint_length (length bytes) ≤ room → BeginsNoHint f (take room bytes) → BeginsNoHint f bytes
 no_hint_tells f bytes room enough none hint rest is e =
     let spelling : List ℕ = hint_spelling f hint in
     let n : ℕ = length spelling in
-    let short : n ≤ 17265 = hint_is_short f hint is in
+    let short : n ≤ max_hint_length = hint_is_short f hint is in
     let inside : n ≤ length bytes = omega (arith, ap length e, length-append spelling rest) in
     let within : n ≤ room = omega arith in
     let front : take n (take room bytes) ≡ spelling = take-take n room bytes within ∙ ap (λ xs. take n xs) e ∙ take_at spelling rest n refl in
     none hint (drop n (take room bytes)) is (sym (take-append-drop n (take room bytes)) ∙ ap (λ xs. xs ++ drop n (take room bytes)) front)
 
 -- and so of all that is read in a format
-pub window_tells : (f : Format) (bytes : List ℕ) (room : ℕ) → 0 < room → min 17265 (length bytes) ≤ room → EndsIn f (take room bytes) → EndsIn f bytes
+pub window_tells : (f : Format) (bytes : List ℕ) (room : ℕ) → 0 < room → min max_hint_length (length bytes) ≤ room → EndsIn f (take room bytes) → EndsIn f bytes
 window_tells One bytes room some enough none =
     (no_hint_tells One bytes room enough none.0, λ e. none.1 (take-take 1 room bytes (omega (arith, some)) ∙ e))
 window_tells Two bytes room some enough none = no_hint_tells Two bytes room enough none

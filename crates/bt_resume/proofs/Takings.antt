@@ -2,15 +2,16 @@
 use Rattle.std.proofs.Common.{◌≡◌, ℕ, ◌+◌, ◌≤◌, List, [], ◌∷◌, ◌++◌, length, take, drop, All, refl, sym, ap, ◌∙◌, subst, arith}
 use Rattle.std.proofs.Math.Seq.{take-add}
 use Rattle.std.proofs.lemmas.List.{drop-drop, length-append, length-take, length-drop}
-use Rattle.std.proofs.lemmas.List.Elements.{All-nil, All-push}
+use Rattle.std.proofs.lemmas.List.Elements.{All-push}
 use Rattle.bt_sparse.specs.Answer.{answer_size}
 use Rattle.bt_hashreq.specs.declared.key.HashKey.{HashKey}
 use Rattle.bt_hashreq.specs.Key.{key_spelling}
-use Rattle.bt_hashreq.specs.Claim.{HasShape}
+use Rattle.bt_hashreq.specs.Claim.{HasShape, max_digests}
 use Rattle.bt_resume.specs.declared.hint.Format.{Format}
 use Rattle.bt_resume.specs.declared.hint.Format.TheVariants.{One, Two}
 use Rattle.bt_resume.specs.declared.hint.Hint.{Hint}
 use Rattle.bt_resume.specs.declared.hint.Hint.TheVariants.{Proof, Marks}
+use Rattle.bt_resume.specs.Limits.{max_hint_length}
 use Rattle.bt_resume.specs.Hint.{joined, hint_spelling, hints_spelling, IsHint}
 use Rattle.bt_resume.specs.LogText.{LogText, of_one, of_two, renewed, hints_in, format_of, EndsIn}
 use Rattle.bt_resume.specs.Reader.{IsFirst, AreFirst, IsTaken, IsRenewed}
@@ -24,18 +25,15 @@ pub record AreFront (format : Format) (bytes : List ℕ) (hints : List Hint) (us
   pub spelled : take used bytes ≡ hints_spelling format hints
   pub inside : used ≤ length bytes
 
--- a key with a shape names at most 538 digests
-few_digests : (k : HashKey) → HasShape k → answer_size k.length k.layers ≤ 538
+-- a key with a shape names no more digests
+few_digests : (k : HashKey) → HasShape k → answer_size k.length k.layers ≤ max_digests
 few_digests k shape = omega (arith, shape.run.limit, shape.layers)
 
-pub hint_is_short : (f : Format) (h : Hint) → IsHint f h → length (hint_spelling f h) ≤ 17265
+pub hint_is_short : (f : Format) (h : Hint) → IsHint f h → length (hint_spelling f h) ≤ max_hint_length
 hint_is_short One (Marks f b n) is = omega arith
 hint_is_short Two (Marks f b n) is = omega arith
 hint_is_short format (Proof k ds) is =
     omega (arith, length-append (key_spelling k) (joined ds), key_size k is.typed.0, joined_length ds is.typed.1, is.readable.1, few_digests k is.readable.0)
-
-pub front_none : (f : Format) (bytes : List ℕ) → AreFront f bytes [] 0
-front_none f bytes = record { lawful = All-nil (IsHint f); size = refl; spelled = refl; inside = omega arith }
 
 pub front_more : (f : Format) (bytes : List ℕ) (hints : List Hint) (used : ℕ) (hint : Hint) (len : ℕ) → AreFront f bytes hints used → IsFirst f (drop used bytes) hint len
     → AreFront f bytes (hints ++ hint ∷ []) (used + len)

@@ -28,7 +28,8 @@ impl Model for Hints {
 
     ghost view = { λ h. h.spelled.0 };
 
-    ghost invariant = { λ h. (h.count ≡ length (hints_in h.spelled.0)) × (h.format ≡ format_of h.spelled.0) };
+    ghost invariant = { λ h. (h.count ≡ length (hints_in h.spelled.0))
+        × (h.format ≡ format_of h.spelled.0) };
 }
 
 impl Hints {
@@ -59,7 +60,8 @@ impl Hints {
     /// Puts what is read at the front of the bytes after the others, and says how many bytes spell it. The
     /// list asks for no more memory than `room` bytes, unless it has more.
     pub(crate) fn take(&mut self, bytes: &[u8], room: usize) -> Result<usize, AllocError>
-        ensures { IfOk result (λ used. (taken : LogText) × IsTaken (format_of self.old) bytes.now taken used
+        ensures { IfOk result (λ used. (taken : LogText) × IsTaken (format_of self.old) bytes.now
+            taken used
             × (self.new ≡ joined_text self.old taken)) }
     {
         let found = measure_text(bytes, self.format);
@@ -76,7 +78,8 @@ impl Hints {
         room: usize,
     ) -> Result<(), AllocError>
         requires { (text : LogText) × IsCounted (format_of self.old) bytes.now text format count }
-        ensures { IfOk result (λ _. (text : LogText) × AreSpelled (format_of self.old) bytes.now text
+        ensures { IfOk result (λ _. (text : LogText) × AreSpelled
+            (format_of self.old) bytes.now text
             × (self.new ≡ joined_text self.old text)) }
     {
         add_bytes(&mut self.bytes, bytes, room)?;

@@ -2,7 +2,6 @@
 ghost use Rattle.std.specs.Prelude.{◌≡◌, ◌≢◌, ◌≤◌, ◌%◌, List, ◌∷◌, [], length, take, All, IfSome, IfNone};
 ghost use Rattle.std.specs.Bool.{OnTrue, OnFalse};
 ghost use Rattle.bt_tree.specs.Limits.{digest_length};
-ghost use Rattle.bt_hashreq.specs.Key.{key_length, key_spelling, IsKey};
 ghost use Rattle.bt_resume.specs.Hint.{proof_kind, joined, BeginsNoHint};
 ghost use Rattle.bt_resume.specs.LogText.{LogText, hints_in, format_of};
 ghost use Rattle.bt_resume.specs.declared.hint.Hint.{Hint};
@@ -11,7 +10,7 @@ ghost use Rattle.bt_resume.specs.Reader.{IsFirst, AreFirst, IsTaken, IsRenewed, 
 
 use crate::hint::{Format, LentHint, is_run};
 use crate::writer::{MARK, MARK_LEN, PROOF, PROOF_FRONT_LEN, RENEWING, RUN, RUN_LEN};
-use bt_hashreq::{HashKey, digest_count, number_at, read_key};
+use bt_hashreq::{digest_count, number_at, whole_key};
 use bt_tree::Hash32;
 
 /// Bytes of a log, and the format in which they begin.
@@ -99,7 +98,8 @@ fn is_renewed(bytes: &[u8], format: Format) -> bool
 
 /// The hint of a format that begins the bytes, where one does.
 pub(crate) fn read_hint(bytes: &[u8], format: Format) -> Option<FoundHint<'_>>
-    ensures found { IfSome result (λ found. IsFirst format bytes.now (hint_of found.hint) found.len) }
+    ensures found { IfSome result (λ found. IsFirst format bytes.now
+        (hint_of found.hint) found.len) }
     ensures none { IfNone result (BeginsNoHint format bytes.now) }
 {
     if *bytes.first()? == PROOF {
@@ -114,7 +114,8 @@ pub(crate) fn read_hint(bytes: &[u8], format: Format) -> Option<FoundHint<'_>>
 /// The proof that begins the bytes, where one does. They begin with the byte of one.
 fn read_proof(bytes: &[u8], format: Format) -> Option<FoundHint<'_>>
     requires { take 1 bytes.now ≡ proof_kind ∷ [] }
-    ensures found { IfSome result (λ found. IsFirst format bytes.now (hint_of found.hint) found.len) }
+    ensures found { IfSome result (λ found. IsFirst format bytes.now
+        (hint_of found.hint) found.len) }
     ensures none { IfNone result (BeginsNoHint format bytes.now) }
 {
     if bytes.len() < PROOF_FRONT_LEN {
@@ -133,18 +134,6 @@ fn read_proof(bytes: &[u8], format: Format) -> Option<FoundHint<'_>>
     })
 }
 
-/// The key that 48 bytes spell.
-fn whole_key(bytes: &[u8]) -> HashKey
-    requires { length bytes.now ≡ key_length }
-    ensures spelled { key_spelling result ≡ bytes.now }
-    ensures numbers { IsKey result }
-{
-    match read_key(bytes) {
-        Some(key) => key,
-        None => unreachable!(),
-    }
-}
-
 /// The digests that lie one after the other.
 fn whole_digests(bytes: &[u8]) -> &[Hash32]
     requires { length bytes.now % digest_length ≡ 0 }
@@ -158,7 +147,8 @@ fn whole_digests(bytes: &[u8]) -> &[Hash32]
 /// The mark of format 1 that begins the bytes, where one does. They begin with no proof.
 fn read_mark(bytes: &[u8]) -> Option<FoundHint<'_>>
     requires { take 1 bytes.now ≢ proof_kind ∷ [] }
-    ensures found { IfSome result (λ found. IsFirst Format.One bytes.now (hint_of found.hint) found.len) }
+    ensures found { IfSome result (λ found. IsFirst Format.One bytes.now
+        (hint_of found.hint) found.len) }
     ensures none { IfNone result (BeginsNoHint Format.One bytes.now) }
 {
     if bytes.len() < MARK_LEN || bytes[0] != MARK {
@@ -177,7 +167,8 @@ fn read_mark(bytes: &[u8]) -> Option<FoundHint<'_>>
 /// The run of marks of format 2 that begins the bytes, where one does. They begin with no proof.
 fn read_run(bytes: &[u8]) -> Option<FoundHint<'_>>
     requires { take 1 bytes.now ≢ proof_kind ∷ [] }
-    ensures found { IfSome result (λ found. IsFirst Format.Two bytes.now (hint_of found.hint) found.len) }
+    ensures found { IfSome result (λ found. IsFirst Format.Two bytes.now
+        (hint_of found.hint) found.len) }
     ensures none { IfNone result (BeginsNoHint Format.Two bytes.now) }
 {
     if bytes.len() < RUN_LEN || bytes[0] != RUN {

@@ -11,8 +11,8 @@ use crate::error::{AppendError, LogError, Refused};
 use crate::hint::{Format, Hint};
 use crate::hints::Hints;
 use crate::writer::{
-    MAX_RUN_ROOM, ROOM_OF_5, ROOM_OF_9, ROOM_OF_17, ROOM_OF_34, ROOM_OF_68, ROOM_OF_135,
-    ROOM_OF_269, ROOM_OF_538, write_proof, write_renewal, write_run,
+    MAX_PROOF_ROOM, MAX_RUN_ROOM, ROOM_OF_5, ROOM_OF_9, ROOM_OF_17, ROOM_OF_34, ROOM_OF_68,
+    ROOM_OF_135, ROOM_OF_269, write_proof, write_renewal, write_run,
 };
 use bt_disk::{DeviceFault, Disk};
 use bt_hashreq::HashKey;
@@ -188,7 +188,7 @@ impl<D: Disk + Drop> ResumeLog<D> {
             35..=68 => self.append_proof_in::<ROOM_OF_68>(key, digests),
             69..=135 => self.append_proof_in::<ROOM_OF_135>(key, digests),
             136..=269 => self.append_proof_in::<ROOM_OF_269>(key, digests),
-            _ => self.append_proof_in::<ROOM_OF_538>(key, digests),
+            _ => self.append_proof_in::<MAX_PROOF_ROOM>(key, digests),
         }
     }
 

@@ -6,7 +6,7 @@ ghost use Rattle.bt_resume.specs.LogText.{appended_bytes};
 ghost use Rattle.bt_resume.specs.declared.hint.Hint.{Hint};
 
 use crate::hint::Format;
-use bt_hashreq::{HashKey, put, write_key};
+use bt_hashreq::{HashKey, MAX_DIGESTS, put, write_key};
 use bt_sparse::Digests;
 
 /// The first byte of a proof.
@@ -31,7 +31,7 @@ pub(crate) const MARK_LEN: usize = 9;
 pub(crate) const RUN_LEN: usize = 13;
 
 /// How many bytes are appended at most for a proof of so many digests: the byte in front of it, and its own. Each
-/// number but the last is half of the next, rounded up; no proof has more digests than the last.
+/// number but the last is half of the next, rounded up; the last is that of `MAX_DIGESTS`, of which 269 are half.
 pub(crate) const ROOM_OF_5: usize = 1 + PROOF_FRONT_LEN + 32 * 5;
 
 pub(crate) const ROOM_OF_9: usize = 1 + PROOF_FRONT_LEN + 32 * 9;
@@ -46,7 +46,7 @@ pub(crate) const ROOM_OF_135: usize = 1 + PROOF_FRONT_LEN + 32 * 135;
 
 pub(crate) const ROOM_OF_269: usize = 1 + PROOF_FRONT_LEN + 32 * 269;
 
-pub(crate) const ROOM_OF_538: usize = 1 + PROOF_FRONT_LEN + 32 * 538;
+pub(crate) const MAX_PROOF_ROOM: usize = 1 + PROOF_FRONT_LEN + 32 * MAX_DIGESTS as usize;
 
 /// No more bytes are appended for a run of marks.
 pub(crate) const MAX_RUN_ROOM: usize = 1 + RUN_LEN;

@@ -1,7 +1,8 @@
 -- A connection that is served.
-use Rattle.std.specs.Prelude.{ℕ, false, List, Option, IfSome}
+use Rattle.std.specs.Prelude.{ℕ, false, List, Ok, Option, IfSome}
 use Rattle.bt_disk.specs.Conduct.{Conduct}
 use Rattle.bt_machine.specs.State.{EngineView}
+use Rattle.bt_session.specs.declared.flushing.Flushing.TheVariants.{Never}
 use Rattle.bt_session.specs.declared.peer_end.PeerEnd.{PeerEnd}
 use Rattle.bt_session.specs.Peer.{EndsAs}
 
@@ -13,4 +14,4 @@ pub record IsServed {D R W : Type 0} (conduct : Conduct D)
     : Type 0 where
   pub reached : Option (R × W)
   pub given : IfSome reached (λ ways. gives ways.0 ways.1)
-  pub ended : EndsAs conduct dig remaining contents false turns reached old end new
+  pub ended : EndsAs conduct dig remaining contents false Never turns reached old end (Ok tt) new

@@ -1,15 +1,13 @@
 -- Ranges that were asked for, and have not come.
 use Rattle.std.specs.Prelude.{◌≡◌, ℕ, ◌<◌, ◌∷◌, ◌++◌, [], List, Contains, length, slice_index_or, swap_remove}
+use Rattle.bt_book.specs.Book.{max_requests}
 use Rattle.bt_wire.specs.declared.message.Ask.{Ask}
-
-abbrev pub most_open : ℕ
-most_open = 16
 
 -- One more is noted, unless it was already, or as many were as may be.
 pub record IsOpened (old : List Ask) (ask : Ask) (new : List Ask) : Type 0 where
   pub again : Contains old ask → new ≡ old
-  pub full : length old ≡ most_open → new ≡ old
-  pub opened : ¬ Contains old ask → length old < most_open → new ≡ old ++ ask ∷ []
+  pub full : length old ≡ max_requests → new ≡ old
+  pub opened : ¬ Contains old ask → length old < max_requests → new ≡ old ++ ask ∷ []
 
 -- one of the open requests is taken out, and the last one takes its place
 abbrev pub IsWithout : List Ask → Ask → List Ask → Type 0

@@ -71,7 +71,8 @@ impl<'a, R: Net + Clock, P: Watch> TcpLink<'a, R, P> {
         alloc: Global,
         watch: &'a P,
     ) -> Self
-        ensures { result ≡ undialled host.now port passage.entry.short_blocks.now passage.entry.pieces }
+        ensures { result ≡ undialled host.now port passage.entry.short_blocks.now
+            passage.entry.pieces }
     {
         TcpLink {
             alloc,

@@ -14,7 +14,7 @@ use crate::timing::Role;
 use bt_check::Fault;
 use bt_disk::Disk;
 use bt_progress::Watch;
-use bt_session::{Engine, PeerEnd, meet_peer};
+use bt_session::{Engine, Flushing, PeerEnd, meet_peer};
 use bt_tree::NodeHash;
 use std::alloc::Global;
 use std::io::{self, ErrorKind, Read, Write};
@@ -110,7 +110,8 @@ pub fn serve<'a, D: Disk + Drop, H: NodeHash, R: Net + Clock, P: Watch>(
     ensures served { IfOk result (λ end. IsServed D.conduct H.digest
         (AreNew passage.entry.short_blocks.now)
         ⟦<StreamReader<'a, R::Stream, R> as Read>⟧.remaining
-        ⟦<StreamWriter<'a, R::Stream, R> as Write>⟧.contents SESSION_TURNS engine.old end engine.new) }
+        ⟦<StreamWriter<'a, R::Stream, R> as Write>⟧.contents SESSION_TURNS engine.old end
+        engine.new) }
     ensures gone { engine.new.state.peers ≡ [] }
     ensures run { LeadsTo D.conduct H.digest engine.old engine.new }
     ensures refused { IfErr result (λ fault. fault ≡ device) }
@@ -124,7 +125,8 @@ pub fn serve<'a, D: Disk + Drop, H: NodeHash, R: Net + Clock, P: Watch>(
                 idle,
             };
             let reached = both_ways(net, stream, terms, passage).ok();
-            let end = meet_peer(alloc, engine, reached, false, SESSION_TURNS);
+            let never = Flushing::Never;
+            let (end, _) = meet_peer(alloc, engine, reached, false, SESSION_TURNS, never);
             let sent = passage.shared.seat.sent.get();
             tell_visit(alloc, watch, net, address, sent, begun);
             Ok(end)

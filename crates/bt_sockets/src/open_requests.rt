@@ -1,20 +1,20 @@
 //! The requests of blocks that are open to a peer.
 ghost use Rattle.std.specs.Prelude.{◌≡◌, ◌↔◌, ◌<◌, ◌≤◌, [], length, take, Contains, HoldsAt, IfSome, IfNone, IsTrue};
 ghost use Rattle.std.specs.Bool.{OnTrue, OnFalse};
+ghost use Rattle.bt_book.specs.Book.{max_requests};
 ghost use Rattle.bt_sockets.specs.OpenSteps.{IsOpened, IsWithout};
 
+use bt_book::MAX_REQUESTS;
 use bt_wire::Ask;
 
-/// How many are noted at most: as many as an engine asks one peer for.
-const MOST_OPEN: usize = 16;
-
-/// The ranges that were asked for, each noted once, and that have not come.
+/// The ranges that were asked for, each noted once, and that have not come: as many at most as an engine asks one peer
+/// for.
 #[derive(Clone, Copy)]
 pub(crate) struct OpenRequests {
-    asks: [Ask; MOST_OPEN],
+    asks: [Ask; MAX_REQUESTS],
     /// How many of these are open, the first ones.
     count: usize,
-    ghost within: { count ≤ 16 },
+    ghost within: { count ≤ max_requests },
 }
 
 impl OpenRequests {
@@ -28,7 +28,7 @@ impl OpenRequests {
             length: 0,
         };
         OpenRequests {
-            asks: [nothing; MOST_OPEN],
+            asks: [nothing; MAX_REQUESTS],
             count: 0,
         }
     }
@@ -45,7 +45,7 @@ impl OpenRequests {
         ensures { IsOpened (take self.old.count self.old.asks) ask
             (take self.new.count self.new.asks) }
     {
-        if self.count == MOST_OPEN || self.index_of(ask).is_some() {
+        if self.count == MAX_REQUESTS || self.index_of(ask).is_some() {
             return;
         }
         self.asks[self.count] = ask;
@@ -70,7 +70,8 @@ impl OpenRequests {
     /// Where this range stands first.
     fn index_of(&self, ask: Ask) -> Option<usize>
         ensures within { IfSome result (λ i. i < length (take self.now.count self.now.asks)) }
-        ensures here { IfSome result (HoldsAt (λ other. other ≡ ask) (take self.now.count self.now.asks)) }
+        ensures here { IfSome result (HoldsAt (λ other. other ≡ ask)
+            (take self.now.count self.now.asks)) }
         ensures none { IfNone result (¬ Contains (take self.now.count self.now.asks) ask) }
     {
         self.asks[..self.count]

@@ -2,15 +2,15 @@
 
 use crate::passage::Shared;
 use crate::timing::{Role, Timed};
+use bt_book::MAX_REQUESTS;
 use bt_connection::{Lent, Padding, Requests, Room};
 use bt_wire::frames::BLOCK_MESSAGE_LEN;
 use std::cell::Cell;
 use std::io;
 use std::time::Instant;
 
-/// How many bytes that came early there is room for: sixteen messages of a whole block, as many as an engine asks one
-/// peer for.
-pub(crate) const EARLY_LEN: usize = 16 * BLOCK_MESSAGE_LEN;
+/// How many bytes that came early there is room for: as many messages of a whole block as an engine asks one peer for.
+pub(crate) const EARLY_LEN: usize = MAX_REQUESTS * BLOCK_MESSAGE_LEN;
 
 /// Room for what comes of a peer that takes nothing.
 pub(crate) type EarlyRoom = Room<EARLY_LEN>;

@@ -276,7 +276,8 @@ impl<'a, S: Read + OpenStream + Drop, C: Clock> TimedStream<'a, S, C> {
     /// Reads once something has come. Errors: as `read`.
     fn wait_for_bytes(&mut self, buffer: &mut [u8], mut begun: Instant) -> io::Result<usize>
         ensures bound { ReadsAtMost result buffer.new }
-        ensures bytes { ReadConsumes (S.remaining self.old) (S.remaining self.new) result buffer.new }
+        ensures bytes { ReadConsumes (S.remaining self.old)
+            (S.remaining self.new) result buffer.new }
     {
         // A bound, so that it ends whatever the system gives.
         'waiting: for _ in 0..u64::MAX {

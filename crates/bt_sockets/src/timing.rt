@@ -265,7 +265,8 @@ impl Times {
         ensures asked { Contains (open_asks self.old.requests) ask → self.new.asked ≡ now }
         ensures others { Contains (open_asks self.old.requests) ask
             → self.new ≡ record self.old { requests = self.new.requests; used = now; asked = now } }
-        ensures unasked { ¬ Contains (open_asks self.old.requests) ask → IsLookedAt self.old now self.new }
+        ensures unasked { ¬ Contains (open_asks self.old.requests) ask
+            → IsLookedAt self.old now self.new }
     {
         if self.requests.remove(ask) {
             self.used = now;
@@ -316,7 +317,8 @@ impl Times {
     fn choke(&mut self)
         ensures choked { self.new.is_choked ≡ true }
         ensures closed { open_asks self.new.requests ≡ [] }
-        ensures others { self.new ≡ record self.old { is_choked = true; requests = self.new.requests } }
+        ensures others { self.new
+            ≡ record self.old { is_choked = true; requests = self.new.requests } }
     {
         self.is_choked = true;
         self.requests = OpenRequests::new();
@@ -359,9 +361,12 @@ impl Times {
         ensures choked { self.old.is_choked ≡ true → self.new ≡ self.old }
         ensures opened { self.old.is_choked ≡ false
             → IsOpened (open_asks self.old.requests) ask (open_asks self.new.requests) }
-        ensures first { self.old.is_choked ≡ false → open_asks self.old.requests ≡ [] → self.new.asked ≡ now }
-        ensures further { 0 < length (open_asks self.old.requests) → self.new.asked ≡ self.old.asked }
-        ensures others { self.new ≡ record self.old { requests = self.new.requests; asked = self.new.asked } }
+        ensures first { self.old.is_choked ≡ false → open_asks self.old.requests ≡ []
+            → self.new.asked ≡ now }
+        ensures further { 0 < length (open_asks self.old.requests) → self.new.asked
+            ≡ self.old.asked }
+        ensures others { self.new
+            ≡ record self.old { requests = self.new.requests; asked = self.new.asked } }
     {
         if self.is_choked {
             return;

@@ -1,13 +1,12 @@
 //! How a message is read from its kind and payload (BEP 3, BEP 52), and which payload lengths fit a kind.
 ghost use Rattle.std.specs.Prelude.{◌≡◌, ◌↔◌, length, IsSome, IsTrue, IfSome, IfNone, IfOk, IfErr};
-ghost use Rattle.bt_hashreq.specs.Key.{key_length, key_spelling, IsKey};
 ghost use Rattle.bt_wire.specs.Message.{ask_spelling, IsAsk, IsKnownKind, CarriesBytes};
 ghost use Rattle.bt_wire.specs.ReaderSteps.{HasSize, IsListed, IsMessageOf};
 
 use crate::bytes::Bytes;
 use crate::frames;
 use crate::message::{Ask, Message};
-use bt_hashreq::{HashKey, KEY_LEN, number_at, read_key};
+use bt_hashreq::{KEY_LEN, number_at, whole_key};
 use std::alloc::{AllocError, Global};
 
 /// Whether a payload of `len` bytes fits the kind; None for an unknown kind.
@@ -36,7 +35,8 @@ pub(crate) fn read_message(
     requires { HasSize kind (length payload.now) }
     ensures message { IfOk result (λ found. IfSome found (IsMessageOf kind payload.now)) }
     ensures unknown { IfOk result (λ found. IfNone found (¬ IsKnownKind kind)) }
-    ensures refused { IfErr result (λ _. (m : Message) × IsMessageOf kind payload.now m × CarriesBytes m) }
+    ensures refused { IfErr result (λ _. (m : Message) × IsMessageOf kind payload.now m
+        × CarriesBytes m) }
 {
     match kind {
         frames::CHOKE => Ok(Some(Message::Choke)),
@@ -79,17 +79,5 @@ fn read_ask(bytes: &[u8]) -> Ask
         piece: number_at(bytes, 0),
         begin: number_at(bytes, 4),
         length: number_at(bytes, 8),
-    }
-}
-
-/// The key that 48 bytes spell.
-fn whole_key(bytes: &[u8]) -> HashKey
-    requires { length bytes.now ≡ key_length }
-    ensures spelled { key_spelling result ≡ bytes.now }
-    ensures numbers { IsKey result }
-{
-    match read_key(bytes) {
-        Some(key) => key,
-        None => unreachable!(),
     }
 }

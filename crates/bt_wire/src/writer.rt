@@ -47,7 +47,8 @@ pub fn write_message(alloc: Global, message: &Message) -> Result<Vec<u8>, AllocE
 /// The bytes of a message of this kind, whose payload is the two runs.
 fn frame(alloc: Global, kind: u8, front: &[u8], back: &[u8]) -> Result<Vec<u8>, AllocError>
     requires { 1 + length (front.now ++ back.now) ≤ MAX_LENGTH_FIELD }
-    ensures { IfOk result (λ bytes. bytes.items ≡ frame_spelling (body kind (front.now ++ back.now))) }
+    ensures { IfOk result (λ bytes. bytes.items ≡ frame_spelling
+        (body kind (front.now ++ back.now))) }
 {
     let len = 1 + front.len() + back.len();
     let mut bytes = Vec::with_capacity(alloc, 4 + len)?;

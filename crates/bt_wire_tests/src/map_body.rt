@@ -45,7 +45,8 @@ impl OrderedNodes {
 
     /// Puts a digest at a node, and returns whether there was none.
     fn insert(&mut self, layer: u32, index: u32, digest: Hash32) -> Result<bool, AllocError>
-        ensures is_new { IfOk result (λ is_new. IsTrue is_new ↔ (digest_at self.old layer index ≡ None)) }
+        ensures is_new { IfOk result (λ is_new. IsTrue is_new ↔ (digest_at self.old layer index
+            ≡ None)) }
         ensures value { OnOk result (self.new ≡ finite.insert self.old (layer, index) digest) }
         ensures err { OnErr result (self.new ≡ self.old) }
     {

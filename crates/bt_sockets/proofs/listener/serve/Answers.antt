@@ -1,4 +1,4 @@
-use Rattle.std.proofs.Common.{◌≡◌, Option, Result, Ok, Err, IfOk, IfSome, sym, subst}
+use Rattle.std.proofs.Common.{◌≡◌, Option, Result, Ok, Err, IfOk, IfSome, refl, sym, subst}
 use Rattle.std.specs.Result.{result_ok}
 use Rattle.bt_sockets.specs.Stream.{AreNewWays, AreNew}
 use Rattle.bt_engine.specs.Leads.{none}
@@ -17,7 +17,7 @@ returns-in-Ok-clause-served g c =
       reached = c.ok-reached.result;
       given = there (λ s ways. AreNewWays short s ways.0 ways.1) (λ ways. AreNew short ways.0 ways.1) c.in-Ok.stream
           c.both_ways.result c.ok-reached.result (λ ways new. (c.in-Ok.stream, new)) c.ok-reached.ensures.value c.both_ways.ensures;
-      ended = c.meet_peer-end.ensures.ended;
+      ended = rw (c.meet_peer-end.ensures.unflushed refl) at c.meet_peer-end.ensures.ended;
     }
 
 pub returns-in-Err-clause-run : goal.returns-in-Err-clause-run
