@@ -93,7 +93,8 @@ impl Book {
     /// Adds a peer, which is asked for nothing yet. False where it is there, or 64 others are; nothing
     /// changes then.
     pub fn join(&mut self, peer: PeerKey) -> bool
-        ensures when { IsTrue result ↔ ((¬ IsJoined self.old peer) × (length self.old.peers < max_peers)) }
+        ensures when { IsTrue result ↔ ((¬ IsJoined self.old peer)
+            × (length self.old.peers < max_peers)) }
         ensures joined { OnTrue result (self.new ≡ with_peer self.old peer) }
         ensures asked { OnTrue result (asked_of self.new peer ≡ []) }
         ensures others { KeepsOthers self.old self.new peer }
@@ -114,7 +115,8 @@ impl Book {
         ensures fewer { (block : BlockId) → IsPair self.old peer block
             → pair_count self.new block + 1 ≡ pair_count self.old block }
         ensures others { KeepsOthers self.old self.new peer }
-        ensures peers { peers_of self.new ≡ filter (λ key. not (key.0 == peer.0)) (peers_of self.old) }
+        ensures peers { peers_of self.new ≡ filter (λ key. not (key.0 == peer.0))
+            (peers_of self.old) }
     {
         if let Some(index) = index_of(&self.peers, peer) {
             let gone = self.peers.remove(index);
@@ -246,7 +248,8 @@ impl Book {
         ensures joined { OnSome result (IsJoined self.old peer) }
         ensures room { OnSome result (length (asked_of self.old peer) < max_requests) }
         ensures none { IfNone result ((¬ IsJoined self.old peer)
-            ⊎ (length (asked_of self.old peer) ≡ max_requests) ⊎ HasNoneToAsk (F.post has) self.old peer) }
+            ⊎ (length (asked_of self.old peer) ≡ max_requests) ⊎ HasNoneToAsk
+            (F.post has) self.old peer) }
         ensures kept { IfNone result (self.new ≡ self.old) }
     {
         let index = self.index_with_room(peer)?;
@@ -267,7 +270,8 @@ impl Book {
     ) -> Option<BlockId>
         requires { (block : BlockId) → IsInRange self.old.wanted block → F.pre next block }
         ensures next { IfSome result (λ block. (has : BlockId → Bool)
-            → GivesFirst (F.post next) self.old.wanted has → IsNextAsked (says has) self.old peer block) }
+            → GivesFirst (F.post next) self.old.wanted has → IsNextAsked
+            (says has) self.old peer block) }
         ensures can { IfSome result (CanAsk self.old peer) }
         ensures now { IfSome result (λ block. self.new ≡ with_pair self.old peer block) }
         ensures asked { IfSome result (λ block.
@@ -310,7 +314,8 @@ impl Book {
         ensures all { (¬ IsJoined self.old peer)
             ⊎ (length (asked_of self.old peer) + length result.items ≡ max_requests)
             ⊎ ((has : BlockId → Bool) → GivesFirst (F.post next) self.old.wanted has
-            → (block : BlockId) → CanAsk self.old peer block → has block ≡ true → Contains result.items block) }
+            → (block : BlockId) → CanAsk self.old peer block → has block ≡ true
+            → Contains result.items block) }
     {
         let mut blocks = ArrayVec::new();
         self.keeps_laws();
@@ -326,8 +331,10 @@ impl Book {
     /// The block that the peer at an index is asked for next, of those of which `has` is true.
     fn next_asked<F: Fn(BlockId) -> bool>(&self, index: usize, has: &F) -> Option<BlockId>
         requires inside { index < length self.now.peers }
-        requires callable { (block : BlockId) → IsInRange self.now.wanted block → F.pre has.now block }
-        ensures some { IfSome result (λ block. (peer : PeerKey) → IsIndexOf peer self.now.peers index
+        requires callable { (block : BlockId) → IsInRange self.now.wanted block
+            → F.pre has.now block }
+        ensures some { IfSome result (λ block. (peer : PeerKey)
+            → IsIndexOf peer self.now.peers index
             → IsNextAsked (F.post has.now) self.now peer block) }
         ensures none { IfNone result ((peer : PeerKey) → IsIndexOf peer self.now.peers index
             → HasNoneToAsk (F.post has.now) self.now peer) }
@@ -341,8 +348,10 @@ impl Book {
     /// The block that the peer at an index is asked for next, of those that `next` gives.
     fn next_met<F: Fn(BlockId) -> Option<BlockId>>(&self, index: usize, next: &F) -> Option<BlockId>
         requires inside { index < length self.now.peers }
-        requires callable { (block : BlockId) → IsInRange self.now.wanted block → F.pre next.now block }
-        ensures some { IfSome result (λ block. (peer : PeerKey) → IsIndexOf peer self.now.peers index
+        requires callable { (block : BlockId) → IsInRange self.now.wanted block
+            → F.pre next.now block }
+        ensures some { IfSome result (λ block. (peer : PeerKey)
+            → IsIndexOf peer self.now.peers index
             → (has : BlockId → Bool) → GivesFirst (F.post next.now) self.now.wanted has
             → IsNextAsked (says has) self.now peer block) }
         ensures can { IfSome result (λ block. (peer : PeerKey) → IsIndexOf peer self.now.peers index
@@ -369,8 +378,10 @@ impl Book {
     /// true.
     fn least_beside<F: Fn(BlockId) -> bool>(&self, index: usize, has: &F) -> Option<BlockId>
         requires inside { index < length self.now.peers }
-        requires callable { (block : BlockId) → IsInRange self.now.wanted block → F.pre has.now block }
-        ensures some { IfSome result (λ block. (peer : PeerKey) → IsIndexOf peer self.now.peers index
+        requires callable { (block : BlockId) → IsInRange self.now.wanted block
+            → F.pre has.now block }
+        ensures some { IfSome result (λ block. (peer : PeerKey)
+            → IsIndexOf peer self.now.peers index
             → IsLeastShareable (F.post has.now) self.now peer block) }
         ensures none { IfNone result ((peer : PeerKey) → IsIndexOf peer self.now.peers index
             → (block : BlockId) → IsShareable self.now peer block → F.post has.now block false) }
@@ -410,7 +421,8 @@ impl Book {
     /// The peer at an index is asked for a block from now on.
     fn make_pair(&mut self, index: usize, block: BlockId)
         requires room { HasRoomAt self.old.peers index }
-        requires can { (peer : PeerKey) → IsIndexOf peer self.old.peers index → CanAsk self.old peer block }
+        requires can { (peer : PeerKey) → IsIndexOf peer self.old.peers index
+            → CanAsk self.old peer block }
         ensures { (peer : PeerKey) → IsIndexOf peer self.old.peers index
             → self.new ≡ with_pair self.old peer block }
     {
@@ -426,9 +438,11 @@ impl Book {
     /// `ask_next`.
     pub fn wants<F: Fn(BlockId) -> Option<BlockId>>(&self, next: F) -> bool
         requires { (block : BlockId) → IsInRange self.now.wanted block → F.pre next block }
-        ensures yes { OnTrue result ((has : BlockId → Bool) → GivesFirst (F.post next) self.now.wanted has
+        ensures yes { OnTrue result ((has : BlockId → Bool) → GivesFirst
+            (F.post next) self.now.wanted has
             → HasWanted has self.now) }
-        ensures no { OnFalse result ((has : BlockId → Bool) → GivesFirst (F.post next) self.now.wanted has
+        ensures no { OnFalse result ((has : BlockId → Bool) → GivesFirst
+            (F.post next) self.now.wanted has
             → HasNoneWanted has self.now) }
     {
         self.wanted.meet(&next).is_some()
@@ -520,7 +534,8 @@ fn count_pairs(peers: &[Requests], block: BlockId) -> usize
 fn gives_itself<F: Fn(BlockId) -> Option<BlockId>>(next: &F, block: BlockId) -> bool
     requires { F.pre next.now block }
     ensures yes { OnTrue result (F.post next.now block (Some block)) }
-    ensures no { OnFalse result ((r : Option BlockId) × F.post next.now block r × (r ≢ Some block)) }
+    ensures no { OnFalse result ((r : Option BlockId) × F.post next.now block r
+        × (r ≢ Some block)) }
 {
     match next(block) {
         Some(first) => first.file == block.file && first.block == block.block,

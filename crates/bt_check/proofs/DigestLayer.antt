@@ -5,7 +5,7 @@ use Rattle.std.proofs.Math.Nat.{mul-le-mul_right}
 use Rattle.std.proofs.lemmas.Nat.{pow_pos}
 use Rattle.std.proofs.lemmas.Bool.{cases_lt}
 use Rattle.std.proofs.lemmas.List.{drop-append-le, length-drop, drop-drop, length-replicate, get_or_append_left, get_or-append_right, get_or-replicate}
-use Rattle.std.proofs.KnownBytes.{Consumes-nil, Consumes-trans}
+use Rattle.std.proofs.KnownBytes.{Consumes-trans}
 use Rattle.std.specs.Io.KnownBytes.{Consumes}
 use Rattle.sha2.specs.Sha256.{sha256}
 use Rattle.bt_tree.specs.Blocks.{block_count, HasRun}
@@ -37,19 +37,6 @@ pub record IsLayering (old new : Option (List ℕ)) (file_length layer index res
   pub size : length bytes ≡ 32 * index
   pub digests : (file : List ℕ) → length file ≡ file_length → HasRun file 0 front
       → (j : ℕ) → j < index → take 32 (drop (32 * j) bytes) ≡ node_digest sha256 file layer j
-
-pub layering_begun : (known : Option (List ℕ)) (file_length layer : ℕ) → IsLayering known known file_length layer 0 file_length []
-layering_begun known file_length layer =
-    let none : 0 * 2 ^ layer ≡ 0 = omega arith in
-    record {
-      front = [];
-      taken = Consumes-nil known;
-      count = omega arith;
-      place = omega (arith, none);
-      real = omega arith;
-      size = refl;
-      digests = λ file len here j lt. absurd (omega (arith, lt));
-    }
 
 -- where the next piece begins
 pub layering_place : (old new : Option (List ℕ)) (file_length layer index rest : ℕ) (bytes : List ℕ) → 0 < rest

@@ -1,16 +1,13 @@
 -- Lemmas on the nodes of pieces.
-use Rattle.std.proofs.Common.{◌≡◌, Option, ℕ, ◌/◌, ◌%◌, ◌+◌, ◌*◌, ◌^◌, ◌<◌, ◌≤◌, List, length, inl, inr, arith, ap, ◌∙◌, subst}
+use Rattle.std.proofs.Common.{◌≡◌, ℕ, ◌/◌, ◌%◌, ◌+◌, ◌*◌, ◌^◌, ◌<◌, ◌≤◌, inl, inr, arith, ap, ◌∙◌}
 use Rattle.std.proofs.Math.Nat.{mul-le-mul_right}
 use Rattle.std.proofs.lemmas.Nat.{pow_pos, div-add-mod'}
 use Rattle.std.proofs.lemmas.Bool.{cases_lt}
-use Rattle.sha2.specs.Sha256.{sha256}
-use Rattle.bt_tree.specs.Blocks.{block_count, HasRun}
-use Rattle.bt_tree.specs.RootBuilder.{BuilderState, BuildsFrom, first_block, node_end}
-use Rattle.bt_tree.specs.Tree.{node_digest}
+use Rattle.bt_tree.specs.Blocks.{block_count}
+use Rattle.bt_tree.specs.RootBuilder.{BuilderState, first_block, node_end}
 use Rattle.bt_tree.specs.TreeShape.{height_of, real_width, CoversBlock}
 use Rattle.bt_tree.proofs.TreeShape.{real_limit}
-use Rattle.bt_check.specs.Reader.{GivesNode}
-use Rattle.bt_check.specs.Pieces.{piece_start, piece_size, GivesPiece}
+use Rattle.bt_check.specs.Pieces.{piece_size}
 
 -- a node of a layer that covers a block
 pub covers : (n layer index : ℕ) → layer ≤ height_of n → index < real_width n layer → CoversBlock n layer index
@@ -24,21 +21,6 @@ piece_covers file_length layer index size b len layer_is index_is real e =
     let first : first_block b ≡ index * 2 ^ layer = ap (λ i. i * 2 ^ b.layer) index_is ∙ ap (λ k. index * 2 ^ k) layer_is in
     let span : 2 ^ b.layer ≡ 2 ^ layer = ap (λ k. 2 ^ k) layer_is in
     omega (arith, first, span, len, real, e)
-
-pub piece_given : (old new : Option (List ℕ)) (file_length layer index size : ℕ) (digest : List ℕ) (b : BuilderState) → b.layer ≡ layer → b.index ≡ index
-    → ((file : List ℕ) → length file ≡ file_length → BuildsFrom sha256 b file) → GivesNode old new size b digest
-    → GivesPiece old new file_length layer index size digest
-piece_given old new file_length layer index size digest b layer_is index_is from node =
-    let first : first_block b ≡ index * 2 ^ layer = ap (λ i. i * 2 ^ b.layer) index_is ∙ ap (λ k. index * 2 ^ k) layer_is in
-    let start : piece_start layer index ≡ 16384 * first_block b = omega (arith, first) in
-    record {
-      bytes = node.bytes;
-      given = node.given;
-      whole = node.whole;
-      value = λ file len here.
-          node.value file (from file len) (subst (λ s. HasRun file s node.bytes) start here)
-          ∙ ap (λ k. node_digest sha256 file k b.index) layer_is ∙ ap (λ i. node_digest sha256 file layer i) index_is;
-    }
 
 -- the nodes of a layer that cover a block cover all blocks
 pub width_covers : (n layer : ℕ) → n ≤ real_width n layer * 2 ^ layer

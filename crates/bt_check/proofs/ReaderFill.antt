@@ -1,9 +1,8 @@
 -- Lemmas on buffers that are filled from a reader by several reads.
-use Rattle.std.proofs.Common.{◌≡◌, ℕ, ◌+◌, ◌<◌, ◌≤◌, List, ◌++◌, Option, arith, length, take, drop, sym, ap, ◌∙◌, subst, le_refl, drop_at, length-take-le, length-append}
+use Rattle.std.proofs.Common.{◌≡◌, ℕ, ◌+◌, ◌≤◌, List, ◌++◌, Option, arith, length, take, drop, sym, ap, ◌∙◌, subst, le_refl, drop_at, length-take-le, length-append}
 use Rattle.std.proofs.lemmas.Slice.{take-put_mid_below}
-use Rattle.std.specs.Io.KnownBytes.{Consumes, Keeps, IsAtEnd}
-use Rattle.std.proofs.KnownBytes.{Consumes-nil, Consumes-trans, Consumes-kept}
-use Rattle.bt_check.specs.Reader.{Gives, LosesFront}
+use Rattle.std.specs.Io.KnownBytes.{Consumes, Keeps}
+use Rattle.std.proofs.KnownBytes.{Consumes-trans, Consumes-kept}
 use borrow.Rule.Slice.PartMut.{put_mid, post_of}
 use lib.Seq.{take-add, take-append-le}
 
@@ -11,19 +10,6 @@ use lib.Seq.{take-add, take-append-le}
 pub record IsFilled (old new : Option (List ℕ)) (filled : ℕ) (buffer : List ℕ) : Type 0 where
   pub within : filled ≤ length buffer
   pub taken : Consumes old new (take filled buffer)
-
-pub filled_none : (known : Option (List ℕ)) (buffer : List ℕ) → IsFilled known known 0 buffer
-filled_none known buffer = record { within = omega arith; taken = Consumes-nil known }
-
--- the buffer is full, or the reader has no more
-pub filled_given : (old new : Option (List ℕ)) (filled : ℕ) (buffer : List ℕ) → IsFilled old new filled buffer
-    → (filled < length buffer → IsAtEnd new) → Gives old new (length buffer) (take filled buffer)
-filled_given old new filled buffer f ended =
-    let size : length (take filled buffer) ≡ filled = length-take-le filled buffer f.within in
-    record { taken = f.taken; within = omega (arith, size, f.within); ended = λ less. ended (omega (arith, size, less)) }
-
-pub filled_lost : (old new : Option (List ℕ)) (filled : ℕ) (buffer : List ℕ) → IsFilled old new filled buffer → LosesFront old new
-filled_lost old new filled buffer f = record { lost = take filled buffer; taken = f.taken }
 
 -- one more read, after what the buffer holds
 take_more : (filled count room : ℕ) (buffer part : List ℕ) → filled ≤ length buffer → count ≤ length part

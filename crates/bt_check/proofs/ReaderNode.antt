@@ -6,9 +6,8 @@ use Rattle.std.proofs.lemmas.List.{take-take, drop-take, drop-drop}
 use Rattle.std.specs.Io.KnownBytes.{Consumes}
 use Rattle.sha2.specs.Sha256.{sha256}
 use Rattle.bt_tree.specs.Blocks.{block_count, HasRun}
-use Rattle.bt_tree.specs.RootBuilder.{BuilderState, BuildsFrom, IsNextRun, TakesBlocks, IsComplete, first_block, next_block, node_end}
-use Rattle.bt_tree.specs.Tree.{node_digest}
-use Rattle.bt_check.specs.Reader.{Gives, LosesFront, EndsEarly, GivesNode}
+use Rattle.bt_tree.specs.RootBuilder.{BuilderState, BuildsFrom, IsNextRun, TakesBlocks, first_block, next_block, node_end}
+use Rattle.bt_check.specs.Reader.{Gives, LosesFront, EndsEarly}
 use lib.Seq.{take-append-le, drop_at}
 
 -- What a reader gave so far of the bytes below a node: they were pushed, and `rest` bytes are left.
@@ -142,30 +141,6 @@ pub reading_lost : (old mid new : Option (List ℕ)) (asked rest : ℕ) (first b
     → LosesFront mid new → LosesFront old new
 reading_lost old mid new asked rest first b r lost =
     record { lost = r.front ++ lost.lost; taken = Consumes-trans old mid new r.front lost.lost r.taken lost.taken }
-
--- every block came
-pub reading_complete : (old new : Option (List ℕ)) (asked : ℕ) (first b : BuilderState) → first.count ≡ 0
-    → 16384 * first_block first + asked ≡ node_end first → IsReading old new asked 0 first b → IsComplete b
-reading_complete old new asked first b fresh all r =
-    let place = same_place first b _ r.takes in
-    let span = same_span first b _ r.takes in
-    let size = r.takes.file_length in
-    let so_far = r.count in
-    let count = r.takes.count in
-    omega (arith, place, span, size, so_far, count, all, fresh)
-
-pub reading_done : (old new : Option (List ℕ)) (asked : ℕ) (first b : BuilderState) (digest : List ℕ) → IsReading old new asked 0 first b
-    → ((file : List ℕ) → BuildsFrom sha256 b file → digest ≡ node_digest sha256 file b.layer b.index) → GivesNode old new asked first digest
-reading_done old new asked first b digest r value =
-    let so_far = r.count in
-    record {
-      bytes = r.front;
-      given = record { taken = r.taken; within = omega (arith, so_far); ended = λ less. absurd (omega (arith, so_far, less)) };
-      whole = omega (arith, so_far);
-      value = λ file started here.
-          value file (r.from file started here)
-          ∙ ap (λ k. node_digest sha256 file k b.index) r.takes.layer ∙ ap (λ i. node_digest sha256 file first.layer i) r.takes.index;
-    }
 
 -- as much as the buffer holds, or as is left
 pub wanted_of : (rest wanted : ℕ) → 0 < rest → wanted ≡ min rest 131072 → IsWanted wanted rest

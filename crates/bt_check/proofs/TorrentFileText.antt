@@ -2,7 +2,7 @@
 use Rattle.std.proofs.Common.{◌≡◌, ℕ, ◌-◌, ◌<◌, ◌≤◌, List, [], ◌++◌, Option, None, Some, IfSome, arith, length, take, sym, ap, ◌∙◌, length-append, take_all, length-take-le, append-nil}
 use Rattle.std.proofs.lemmas.Bool.{cases_lt}
 use Rattle.std.proofs.Common.{inl, inr}
-use Rattle.std.proofs.KnownBytes.{Consumes-nil, Consumes-trans}
+use Rattle.std.proofs.KnownBytes.{Consumes-trans}
 use Rattle.std.specs.Io.KnownBytes.{Consumes}
 use Rattle.bt_check.specs.Reader.{Gives}
 use lib.Seq.{take-append-le}
@@ -11,9 +11,6 @@ use lib.Seq.{take-append-le}
 pub record IsText (old new : Option (List ℕ)) (limit : ℕ) (text : List ℕ) : Type 0 where
   pub taken : Consumes old new text
   pub within : length text ≤ limit
-
-pub text_begun : (known : Option (List ℕ)) (limit : ℕ) → IsText known known limit []
-text_begun known limit = record { taken = Consumes-nil known; within = omega arith }
 
 pub text_more : (old mid new : Option (List ℕ)) (limit count wanted : ℕ) (text run next : List ℕ) → IsText old mid limit text
     → length run ≡ wanted → wanted ≤ limit - length text → count ≤ wanted → Gives mid new (length run) (take count run)

@@ -15,7 +15,8 @@ pub fn fault_name<P: Watch>(
     watch: &P,
     path: &str,
 ) -> Result<Option<String>, AllocError>
-    ensures { IfOk result (λ name. IfSome name (λ name. string_bytes name ≡ display_text path.now)) }
+    ensures { IfOk result (λ name. IfSome name (λ name. string_bytes name
+        ≡ display_text path.now)) }
 {
     if !watch.is_verbose() {
         return Ok(None);

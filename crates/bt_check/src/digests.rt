@@ -33,7 +33,8 @@ pub fn digest_reader<R: Read>(
     buffer: &mut [u8; BUFFER_LEN],
 ) -> Result<Digests, Fault>
     // of the reader's bytes, where it tells them
-    ensures told { IfSome (R.remaining reader.old) (λ bytes. IfOk result (AreDigestsOf bytes size.layer)) }
+    ensures told { IfSome (R.remaining reader.old)
+        (λ bytes. IfOk result (AreDigestsOf bytes size.layer)) }
 
     // of the bytes that it gave, at every reader
     ensures given { IfOk result

@@ -6,7 +6,7 @@ ghost use Rattle.bt_disk.specs.Calls.{HasCalls};
 ghost use Rattle.bt_meta.specs.Files.{file_of};
 ghost use Rattle.bt_check.specs.CheckSteps.{HoldsLeaves, ChecksBlocks, ChecksTree, FindsBytes, IsKnownTree};
 ghost use Rattle.bt_check.specs.EntryCheck.{Answers, IsCheckable, IsEntryCheck, len_call_of};
-ghost use Rattle.bt_check.specs.Finding.{KnownLayer, IsFindingOf, known_layer, no_leaves};
+ghost use Rattle.bt_check.specs.Finding.{KnownLayer, known_layer, no_leaves};
 
 use crate::data_file::Finding;
 use crate::file_hash::FileHash;
@@ -29,7 +29,12 @@ pub struct EntryCheck<D: Disk + Drop> {
 /// blocks are marked.
 pub fn absent_finding(length: u64) -> Finding
     requires { length ≤ max_file_length }
-    ensures { result ≡ record { blocks = block_count length; marked = 0; longer = false; faulty = false } }
+    ensures { result ≡ record {
+      blocks = block_count length;
+      marked = 0;
+      longer = false;
+      faulty = false;
+    } }
 {
     let blocks = match Geometry::new(length) {
         Some(geometry) => geometry.blocks(),
@@ -41,36 +46,6 @@ pub fn absent_finding(length: u64) -> Finding
         longer: false,
         faulty: false,
     }
-}
-
-/// Checks the bytes of a device against an entry: by the pieces whose digests the entry has, else as a whole.
-///
-/// The device is asked for its length, and then each block is read, in turn, also after a call that failed.
-/// The blocks of a piece are marked where each was read whole and the piece has its digest. Errors: out of
-/// memory.
-pub fn check_entry<D: Disk + Drop>(
-    alloc: Global,
-    disk: D,
-    entry: &FileEntry,
-    size: PieceSize,
-) -> Result<EntryCheck<D>, AllocError>
-    requires { IsCheckable size.layer (file_of entry.now) }
-
-    // of what the device answered, at every device
-    ensures answered { IfOk result (λ check. (answers : Answers) × IsEntryCheck D.conduct
-        entry.now.length (known_layer size.layer (file_of entry.now)) no_leaves
-        disk answers check.disk check.finding) }
-
-    // of the device's bytes, where it gives what was written
-    ensures honest { D.conduct.honest disk → IfOk result (λ check. check.finding.faulty ≡ false
-        → IsFindingOf (D.conduct.history disk).now.bytes
-        entry.now.length (known_layer size.layer (file_of entry.now)) no_leaves check.finding) }
-{
-    let Some(geometry) = Geometry::new(entry.length) else {
-        return Ok(check_empty(disk));
-    };
-    let mut tree = known_tree(alloc, geometry, entry, size)?;
-    check_tree(alloc, disk, &mut tree)
 }
 
 /// Checks the device of an empty file, which has no tree.
@@ -95,6 +70,9 @@ pub fn check_empty<D: Disk + Drop>(disk: D) -> EntryCheck<D>
 }
 
 /// Checks the device of a file by what its tree knows; the tree learns the leaves of pieces that are right.
+///
+/// The device is asked for its length, and then each block is read, in turn, also after a call that failed. The blocks
+/// of a piece are marked where each was read whole and the piece has its digest. Errors: out of memory.
 pub fn check_tree<D: Disk + Drop>(
     alloc: Global,
     disk: D,
@@ -104,7 +82,8 @@ pub fn check_tree<D: Disk + Drop>(
     ensures answered { IfOk result
         (λ check. ChecksTree D.conduct tree.old disk check tree.new) }
     ensures honest { D.conduct.honest disk
-        → IfOk result (λ check. FindsBytes (D.conduct.history disk).now.bytes tree.old check.finding) }
+        → IfOk result (λ check. FindsBytes (D.conduct.history disk).now.bytes tree.old
+        check.finding) }
 {
     let mut disk = disk;
     let length = length_of(&mut disk);
@@ -192,7 +171,8 @@ pub fn known_tree(
     requires checkable { IsCheckable size.layer (file_of entry.now) }
     requires length { geometry ≡ entry.now.length }
     requires lawful { IsFileLength geometry }
-    ensures { IfOk result (HoldsLeaves geometry (known_layer size.layer (file_of entry.now)) no_leaves) }
+    ensures { IfOk result (HoldsLeaves geometry (known_layer size.layer (file_of entry.now))
+        no_leaves) }
 {
     if entry.layer.is_empty() {
         return SparseTree::new(alloc, FileHash, geometry, entry.root);

@@ -27,7 +27,7 @@ pub use check::check_torrent;
 pub use data_file::{Finding, OPEN_FILES, open_data_file};
 pub use digests::{Digests, digest_reader};
 pub use display::display_name;
-pub use entry_check::{EntryCheck, check_entry, length_of};
+pub use entry_check::length_of;
 pub use fault::{Fault, system_fault};
 pub use file_hash::FileHash;
 pub use output::print;

@@ -110,7 +110,8 @@ fn read_eight<R: Read>(
     requires { layer < 3 }
     ensures { IfOk result (λ found. IfSome found (λ run. (file_length index : ℕ)
         → piece_start layer index + 8 * full_block_length ≤ file_length
-        → GivesPieces (R.remaining reader.old) (R.remaining reader.new) file_length layer index run)) }
+        → GivesPieces (R.remaining reader.old) (R.remaining reader.new) file_length layer
+        index run)) }
 {
     if fill(reader, buffer)? < BUFFER_LEN {
         return Ok(None);

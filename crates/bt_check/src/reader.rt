@@ -17,7 +17,8 @@ pub const BUFFER_LEN: usize = 8 * BLOCK_LEN;
 pub fn fill<R: Read>(reader: &mut R, buffer: &mut [u8]) -> Result<usize, DeviceFault>
     ensures count { IfOk result (λ count. count ≤ length buffer.new) }
     ensures given { IfOk result (λ count. Gives
-        (R.remaining reader.old) (R.remaining reader.new) (length buffer.new) (take count buffer.new)) }
+        (R.remaining reader.old) (R.remaining reader.new) (length buffer.new)
+        (take count buffer.new)) }
     ensures err { OnErr result (LosesFront (R.remaining reader.old) (R.remaining reader.new)) }
 {
     let mut filled = 0;
@@ -47,9 +48,11 @@ pub fn read_node<R: Read>(
     requires fresh { builder.count ≡ 0 }
     requires all { full_block_length * first_block builder + length ≡ node_end builder }
     ensures early { IfOk result
-        (λ found. IfNone found (EndsEarly (R.remaining reader.old) (R.remaining reader.new) length)) }
+        (λ found. IfNone found (EndsEarly (R.remaining reader.old)
+        (R.remaining reader.new) length)) }
     ensures node { IfOk result
-        (λ found. IfSome found (GivesNode (R.remaining reader.old) (R.remaining reader.new) length builder)) }
+        (λ found. IfSome found (GivesNode (R.remaining reader.old) (R.remaining reader.new) length
+        builder)) }
     ensures err { OnErr result (LosesFront (R.remaining reader.old) (R.remaining reader.new)) }
 {
     let mut builder = builder;

@@ -72,7 +72,8 @@ pub fn write_line<W: Write>(
 
 /// Adds the line of a finding.
 fn push_line(line: &mut String, finding: Finding, path: &str) -> Result<(), AllocError>
-    ensures { OnOk result (string_bytes line.new ≡ string_bytes line.old ++ finding_line finding path.now) }
+    ensures { OnOk result (string_bytes line.new ≡ string_bytes line.old
+        ++ finding_line finding path.now) }
 {
     use fmt::Write;
     let Finding { blocks, marked, .. } = finding;

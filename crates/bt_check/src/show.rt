@@ -31,7 +31,8 @@ pub fn show_torrent<W: Write>(alloc: Global, torrent: &Torrent, writer: &mut W) 
 
 /// The lines on the whole torrent.
 fn head(alloc: Global, torrent: &Torrent) -> Result<String, AllocError>
-    ensures { IfOk result (λ text. string_bytes text ≡ flat_map line_text (head_lines torrent.now)) }
+    ensures { IfOk result (λ text. string_bytes text ≡ flat_map line_text
+        (head_lines torrent.now)) }
 {
     let name = display_name(alloc, torrent.name())?;
     let infohash = hex::encode(alloc, &torrent.infohash())?;

@@ -64,7 +64,8 @@ fn read_source<R: Read>(
 ) -> Result<Torrent, Fault>
     ensures torrent { IfSome (R.remaining reader.old)
         (λ bytes. IfOk result (IsTorrentOfText is_info (text_in bytes))) }
-    ensures refusal { IfSome (R.remaining reader.old) (λ bytes. IfErr result (IsSourceFault is_info bytes)) }
+    ensures refusal { IfSome (R.remaining reader.old)
+        (λ bytes. IfErr result (IsSourceFault is_info bytes)) }
     ensures some_torrent { IfOk result (HasText is_info) }
     ensures some_fault { IfErr result (IsLoadFault is_info) }
 {
@@ -87,7 +88,8 @@ pub fn read_text<R: Read>(
         (R.remaining reader.old)
         (λ bytes. IfOk result (λ text. text.items ≡ text_in bytes)) }
     ensures given { IfOk result
-        (λ text. Gives (R.remaining reader.old) (R.remaining reader.new) (max_text_length + 1) text.items) }
+        (λ text. Gives (R.remaining reader.old) (R.remaining reader.new)
+        (max_text_length + 1) text.items) }
     ensures fault { IfErr result (λ fault. (fault ≡ device) ⊎ (fault ≡ out_of_memory)) }
 {
     let mut text = Vec::new(alloc);

@@ -31,7 +31,8 @@ pub struct SharedTrees {
 impl SharedTrees {
     /// The trees for a check of these files, of which none is checked yet. Errors: out of memory.
     pub fn new(alloc: Global, files: &[FileEntry]) -> Result<SharedTrees, AllocError>
-        ensures { IfOk result (λ trees. (layer : ℕ) → KeepsTrees layer [] (map file_of files.now) trees) }
+        ensures { IfOk result (λ trees. (layer : ℕ) → KeepsTrees layer []
+            (map file_of files.now) trees) }
     {
         let mut last = BTreeMap::new(alloc);
         let mut left = files.len();
@@ -116,7 +117,8 @@ fn check_file<D: Disk + Drop>(
     kept: &mut BTreeMap<(Hash32, u64), SparseTree<FileHash>>,
 ) -> Result<Finding, AllocError>
     requires checkable { IsCheckable size.layer (file_of entry.now) }
-    requires tree { (before : List CheckedFile) × HasTree size.layer before (file_of entry.now) kept.old }
+    requires tree { (before : List CheckedFile) × HasTree size.layer before
+        (file_of entry.now) kept.old }
     ensures { IfOk result (λ finding.
         ChecksFile D.conduct size.layer (file_of entry.now) disk kept.old finding kept.new) }
 {
@@ -135,7 +137,8 @@ fn check_present<D: Disk + Drop>(
     kept: &mut BTreeMap<(Hash32, u64), SparseTree<FileHash>>,
 ) -> Result<Finding, AllocError>
     requires checkable { IsCheckable size.layer (file_of entry.now) }
-    requires tree { (before : List CheckedFile) × HasTree size.layer before (file_of entry.now) kept.old }
+    requires tree { (before : List CheckedFile) × HasTree size.layer before
+        (file_of entry.now) kept.old }
     ensures { IfOk result (λ finding.
         ChecksFile D.conduct size.layer (file_of entry.now) (Some disk) kept.old finding kept.new) }
 {

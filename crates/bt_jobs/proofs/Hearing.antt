@@ -1,5 +1,5 @@
 -- What the parts tell, read by several reads.
-use Rattle.std.proofs.Common.{◌≡◌, ℕ, ◌+◌, ◌≤◌, List, [], ◌++◌, Option, None, Some, Result, Ok, Err, IfOk, OnOk, length, sym, ap, ◌∙◌, subst, take, append-nil, append_assoc, arith}
+use Rattle.std.proofs.Common.{◌≡◌, ℕ, ◌+◌, ◌≤◌, List, [], ◌++◌, Option, None, Some, Result, Ok, Err, IfOk, length, sym, ap, ◌∙◌, subst, take, append-nil, append_assoc, arith}
 use Rattle.std.specs.Io.KnownBytes.{Consumes, Keeps}
 use Rattle.std.proofs.KnownBytes.{Consumes-nil, Consumes-trans}
 use Rattle.std.proofs.lemmas.List.{length-append, length-take-le}
@@ -86,11 +86,6 @@ module _ {P : Type 0} (stands : P → PartState → Type 0) (most : ℕ) where
           often = h.often;
           seen = h.seen;
         }
-
--- what holds whatever the result is
-pub on_ok_any : {T E : Type 0} (r : Result T E) (P : Type 0) → P → OnOk r P
-on_ok_any (Ok x) P holds = holds
-on_ok_any (Err e) P holds = tt
 
 pub if_ok_any : {T E : Type 0} (r : Result T E) (P : Type 0) → P → IfOk r (λ _. P)
 if_ok_any (Ok x) P holds = holds

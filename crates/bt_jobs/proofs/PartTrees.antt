@@ -27,7 +27,7 @@ use Rattle.bt_parts.specs.Line.{run_line}
 use Rattle.bt_parts.specs.Run.{is_fault, is_longer}
 use Rattle.bt_parts.specs.declared.cut.Share.{Share}
 use Rattle.bt_parts.specs.declared.run.Met.{Met}
-use Rattle.bt_parts.specs.declared.run.Met.TheVariants.{Nothing, Absent, Longer, Unmeasured}
+use Rattle.bt_parts.specs.declared.run.Met.TheVariants.{Absent, Longer, Unmeasured}
 use Rattle.bt_parts.specs.declared.run.Run.{Run}
 use Rattle.bt_jobs.specs.Share.{ChecksShare, IsPieceEdge, IsReadyAt, IsShareCheck, runs_text, share_reads}
 use Rattle.bt_jobs.specs.Trees.{AreRunsOf, GoByRoots, IsPartFinding, absent, blockless, read, IsShareFinding, answers_of, file_in_part, length_calls, share_calls}
@@ -272,12 +272,6 @@ unmeasured n = record { longer = (λ t. absurd (true≢false (sym t)), λ none. 
 
 pub too_long : (n len : ℕ) → n < len → IsMeasured n (Some len) Longer
 too_long n len beyond = record { longer = (λ _. beyond, λ _. refl); faulty = (λ t. absurd (true≢false (sym t)), λ none. absurd (none_some len (sym none))) }
-
-pub not_long : (n len : ℕ) → len ≤ n → IsMeasured n (Some len) Nothing
-not_long n len few = record {
-  longer = (λ t. absurd (true≢false (sym t)), λ beyond. absurd (omega (arith, beyond, few)));
-  faulty = (λ t. absurd (true≢false (sym t)), λ none. absurd (none_some len (sym none)));
-}
 
 -- the length was not asked for, or it was
 module _ {D : Type 0} (conduct : Conduct D) (part : FilePart) where

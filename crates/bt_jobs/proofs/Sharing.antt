@@ -129,10 +129,6 @@ or_false : (b : Bool) → (b || false) ≡ b
 or_false true = refl
 or_false false = refl
 
-or_assoc : (a b c : Bool) → ((a || b) || c) ≡ (a || (b || c))
-or_assoc true b c = refl
-or_assoc false b c = refl
-
 pub any_more : (p : Run → Bool) (runs : List Run) (run : Run) → list_any p (runs ++ run ∷ []) ≡ (list_any p runs || p run)
 any_more p runs run = list_any-append p runs (run ∷ []) ∙ ap (λ b. list_any p runs || b) (or_false (p run))
 
@@ -224,9 +220,6 @@ module _ {D : Type 0} (conduct : Conduct D) (n : ℕ) (known : KnownLayer) (leav
 
       pub sum_is_few : run.marked + groups.marked ≤ block_count n
       sum_is_few = omega (arith, own_count, count_few right run.from (groups.next - run.from), add.within)
-
-      pub next_is_inside : groups.next ≤ block_count n
-      next_is_inside = add.within
 
       met_is : (next : Run) → IsWithGroups run groups next
           → ((0 < groups.faults) × (next.met ≡ Unread)) ⊎ ((groups.faults ≡ 0) × (next.met ≡ run.met))

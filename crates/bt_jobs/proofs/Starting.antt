@@ -8,7 +8,7 @@ use Rattle.std.proofs.lemmas.List.{length-append, length-map, map-append, nil_fr
 use Rattle.std.proofs.lemmas.List.Elements.{All-head, All-tail}
 use Rattle.std.proofs.lemmas.List.FromFn.{length-range_with_len}
 use Rattle.bt_jobs.specs.Children.{program_text}
-use Rattle.bt_jobs.specs.Parts.{AreBegun, AreStarted, HasNotFailed, IsDone, IsOver, IsPart, IsSeen, NoneIsLeft, PartState, newly, none, more}
+use Rattle.bt_jobs.specs.Parts.{AreStarted, HasNotFailed, IsDone, IsOver, IsPart, IsSeen, NoneIsLeft, PartState, newly, none, more}
 use Rattle.bt_jobs.specs.PartsSteps.{IsAny, IsOneAtMost, IsOneMore, TurnAll, Turns}
 use Rattle.bt_jobs.specs.Starts.{Start, start_of, start_with}
 use Rattle.bt_jobs.proofs.Turning.{part_weaker, zip_push, zip_weaker}

@@ -1,11 +1,11 @@
 -- What calls make of parts, one after the other.
-use Rattle.std.proofs.Common.{◌≡◌, ℕ, zero, suc, ◌+◌, ◌<◌, ◌≤◌, List, [], ◌∷◌, ◌++◌, length, get_or, set, Option, Some, Result, Ok, Err, inl, inr, true, refl, sym, subst, ◌∙◌, arith}
+use Rattle.std.proofs.Common.{◌≡◌, ℕ, zero, suc, ◌+◌, ◌<◌, ◌≤◌, List, [], ◌∷◌, ◌++◌, length, get_or, set, Option, Some, Result, Ok, Err, inr, true, refl, subst, arith}
 use Rattle.std.specs.Prelude.{⊤, IfSome, pos}
 use Rattle.std.specs.List.{AllZip}
 use Rattle.std.specs.Process.{exit_code}
 use Rattle.std.specs.declared.process.status.ExitStatus.{ExitStatus}
-use Rattle.bt_jobs.specs.Parts.{AreBegun, AreStarted, Becomes, HasNotFailed, IsDone, IsOver, IsPart, IsSeen, NoneIsLeft, PartState, looked, none, more, passed, told_to_end, waited_for}
-use Rattle.bt_jobs.specs.PartsSteps.{IsAny, IsOneAtMost, IsOneMore, TurnAll, Turns}
+use Rattle.bt_jobs.specs.Parts.{Becomes, HasNotFailed, IsDone, IsOver, IsPart, IsSeen, PartState, looked, passed, told_to_end, waited_for}
+use Rattle.bt_jobs.specs.PartsSteps.{IsAny, TurnAll, Turns}
 use Rattle.bt_jobs.specs.Starts.{Start}
 
 -- ---- one part

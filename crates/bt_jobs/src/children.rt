@@ -60,7 +60,8 @@ fn part_command(alloc: Global, job: Job<'_>, index: u32) -> Result<Command, Allo
 /// Adds a word to those of a command.
 fn push_word(command: &mut Command, word: &str) -> Result<(), AllocError>
     ensures program { OnOk result (command_program command.new ≡ command_program command.old) }
-    ensures words { OnOk result (command_args command.new ≡ command_args command.old ++ word.now ∷ []) }
+    ensures words { OnOk result (command_args command.new ≡ command_args command.old
+        ++ word.now ∷ []) }
 {
     command.arg(word)?;
     Ok(())
@@ -80,7 +81,8 @@ fn push_info(command: &mut Command, is_info: bool) -> Result<(), AllocError>
 
 /// Passes a part a text. Errors: it did not take all of it; then it is over.
 pub(crate) fn pass_to<C: StartedPart>(part: &mut C, text: &[u8]) -> Result<(), StartFault>
-    ensures passed { OnOk result (Turns C.stands HasNotFailed (IsSeen text.now 0) part.old part.new) }
+    ensures passed { OnOk result (Turns C.stands HasNotFailed
+        (IsSeen text.now 0) part.old part.new) }
     ensures over { OnErr result (Turns C.stands IsAny IsOver part.old part.new) }
 {
     match part.pass(text) {
@@ -109,7 +111,8 @@ pub(crate) fn end_all<C: StartedPart>(children: &mut [C])
 /// Looks whether a part has ended that did not do what it was to. Waits for none.
 pub(crate) fn look_at_all<C: StartedPart>(children: &mut [C]) -> Result<(), Fault>
     ensures seen { OnOk result ((text : List ℕ) → (looks : ℕ)
-        → TurnAll C.stands (IsSeen text looks) (IsSeen text (looks + 1)) children.old children.new) }
+        → TurnAll C.stands (IsSeen text looks) (IsSeen text (looks + 1)) children.old
+        children.new) }
     ensures kept { TurnAll C.stands IsAny IsAny children.old children.new }
     ensures fault { IfErr result (λ fault. (fault ≡ device) ⊎ (fault ≡ out_of_memory)) }
 {

@@ -72,7 +72,8 @@ pub fn check_by_parts<R: Files + AllocGlobal + Clone + Drop, L: Starter, P: Watc
 ) -> Result<Summary, Fault>
     ensures report { IfOk result (λ summary. (torrent : Metainfo) × (found : List FileFinding)
         × HasText job.entry.source.is_info torrent
-        × IsCheckByParts L.starts L.Part.stands job.entry torrent found summary starter.old starter.new
+        × IsCheckByParts L.starts L.Part.stands job.entry torrent found summary starter.old
+        starter.new
         × Appends (W.contents writer.old) (W.contents writer.new) (report_text found)) }
     ensures over { NoneIsLeft L.starts L.Part.stands starter.old starter.new }
     ensures fault { IfErr result (IsLoadFault job.entry.source.is_info) }
@@ -169,7 +170,8 @@ fn runs_of_parts<L: Starter, P: Watch, I: Read>(
         (λ runs. AreHeard (I.remaining output.old) (I.remaining output.new) runs.items) }
     ensures done { IfOk result (λ _. (parts : List L.Part)
         × AreStarted L.starts L.Part.stands (IsDone loaded.now.text.items) starter.old
-        (part_starts job.entry.source.is_info job.entry.dir.now job.entry.count) starter.new parts) }
+        (part_starts job.entry.source.is_info job.entry.dir.now job.entry.count)
+        starter.new parts) }
     ensures over { NoneIsLeft L.starts L.Part.stands starter.old starter.new }
     ensures fault { IfErr result (λ fault. (fault ≡ device) ⊎ (fault ≡ out_of_memory)) }
 {
@@ -329,7 +331,8 @@ fn of_parts<T, P: Watch>(watch: &P, outcome: Result<T, Fault>) -> Result<T, Faul
 
 /// The runs that were told, in the order of their files, and in each of its blocks.
 fn in_order(told: Told) -> Result<Vec<Run>, Fault>
-    ensures told { IfOk result (λ runs. (text : List ℕ) → IsToldBy text told → TellsEach text runs.items) }
+    ensures told { IfOk result (λ runs. (text : List ℕ) → IsToldBy text told
+        → TellsEach text runs.items) }
     ensures order { IfOk result (λ runs. IsSorted ⟦<Run as Ord>⟧.cmp runs.items) }
     ensures fault { IfErr result (λ fault. (fault ≡ device) ⊎ (fault ≡ out_of_memory)) }
 {
@@ -392,7 +395,8 @@ fn hear<P: Watch, I: Read, C: StartedPart>(
 /// made again.
 fn read_some<I: Read>(reader: &mut I, buffer: &mut [u8]) -> Result<usize, Fault>
     requires { 0 < length buffer.old }
-    ensures given { IfOk result (λ count. IsGiven (I.remaining reader.old) (I.remaining reader.new) count
+    ensures given { IfOk result (λ count. IsGiven (I.remaining reader.old)
+        (I.remaining reader.new) count
         buffer.new) }
     ensures fault { IfErr result (λ fault. fault ≡ device) }
 {

@@ -37,7 +37,8 @@ pub fn check_part<R: Files + AllocGlobal + Clone + Drop, W: Write>(
     writer: &mut W,
 ) -> Result<(), Fault>
     requires { (is_info : Bool) × HasText is_info torrent.now }
-    ensures report { OnOk result ((runs : List BlockRun) × IsPartReport dir.now torrent.now part runs
+    ensures report { OnOk result ((runs : List BlockRun)
+        × IsPartReport dir.now torrent.now part runs
         × Appends (W.contents writer.old) (W.contents writer.new) (runs_text runs)) }
     ensures fault { IfErr result (λ fault. (fault ≡ device) ⊎ (fault ≡ out_of_memory)) }
 {
@@ -65,7 +66,8 @@ fn open_part<'a, R: Files + AllocGlobal + Clone + Drop>(
     ensures files { IfOk result
         (λ files. map file_in_part (map part_at files.items) ≡ map file_of entries.now) }
     ensures numbers { IfOk result
-        (λ files. map (λ p. p.number) (map part_at files.items) ≡ range_with_len 0 (length entries.now)) }
+        (λ files. map (λ p. p.number) (map part_at files.items) ≡ range_with_len 0
+        (length entries.now)) }
     ensures shares { IfOk result
         (λ files. map (λ p. p.share) (map part_at files.items) ≡ shares.now) }
     ensures paths { IfOk result (λ files. All (IsPartAt dir.now) files.items) }

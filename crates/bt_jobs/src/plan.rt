@@ -23,7 +23,8 @@ pub fn shares_of(
 ) -> Result<Vec<Share>, AllocError>
     requires few { length files.now ≤ max_file_count }
     requires checkable { All (IsCheckable size.layer) (map file_of files.now) }
-    ensures { IfOk result (λ shares. AreShares size.layer part (map file_of files.now) shares.items) }
+    ensures { IfOk result (λ shares. AreShares size.layer part
+        (map file_of files.now) shares.items) }
 {
     let plan = Plan::new(alloc, files, size)?;
     let mut shares = Vec::new(alloc);

@@ -22,7 +22,8 @@ const RUN_BLOCKS: u32 = 1024;
 
 /// Writes the line of a run, at once.
 pub(crate) fn tell<W: Write>(alloc: Global, run: Run, writer: &mut W) -> Result<(), Fault>
-    ensures line { OnOk result (Appends (W.contents writer.old) (W.contents writer.new) (run_line run)) }
+    ensures line { OnOk result (Appends (W.contents writer.old) (W.contents writer.new)
+        (run_line run)) }
     ensures fault { IfErr result (λ fault. (fault ≡ device) ⊎ (fault ≡ out_of_memory)) }
 {
     let mut line = String::new(alloc);

@@ -41,7 +41,8 @@ pub trait Starter {
     /// Starts a part, which tells by the pipe. Errors: it was not started.
     fn start(&mut self, command: &mut Command, pipe: &PipeWriter) -> Result<Self::Part, StartFault>
         ensures started { OnOk result (starts self.old (start_of command.old) self.new) }
-        ensures stands { IfOk result (λ part. Self.Part.stands part (newly (start_of command.old))) }
+        ensures stands { IfOk result (λ part. Self.Part.stands part
+            (newly (start_of command.old))) }
         ensures unstarted { OnErr result (self.new ≡ self.old) };
 }
 

@@ -66,7 +66,8 @@ fn check_file<D: Disk + Drop, W: Write>(
     writer: &mut W,
 ) -> Result<(), Fault>
     requires ready { IsReadyPart size.layer part }
-    requires tree { (before : List CheckedFile) × HasTree size.layer before (file_in_part part) kept.old
+    requires tree { (before : List CheckedFile) × HasTree size.layer before
+        (file_in_part part) kept.old
         × KnowsOwn size.layer before (file_in_part part) }
     ensures told { OnOk result (ChecksPart D.conduct size.layer part.entry disk
         kept.old kept.new (W.contents writer.old) (W.contents writer.new)) }
@@ -88,7 +89,8 @@ fn check_present<D: Disk + Drop, W: Write>(
     writer: &mut W,
 ) -> Result<(), Fault>
     requires ready { IsReadyPart size.layer part }
-    requires tree { (before : List CheckedFile) × HasTree size.layer before (file_in_part part) kept.old
+    requires tree { (before : List CheckedFile) × HasTree size.layer before
+        (file_in_part part) kept.old
         × KnowsOwn size.layer before (file_in_part part) }
     ensures told { OnOk result (ChecksPart D.conduct size.layer part.entry (Some disk)
         kept.old kept.new (W.contents writer.old) (W.contents writer.new)) }
@@ -128,7 +130,8 @@ fn check_blocks<D: Disk + Drop, W: Write>(
     writer: &mut W,
 ) -> Result<(), Fault>
     requires ready { IsReadyPart size.layer part }
-    requires tree { (before : List CheckedFile) × HasTree size.layer before (file_in_part part) kept.old
+    requires tree { (before : List CheckedFile) × HasTree size.layer before
+        (file_in_part part) kept.old
         × KnowsOwn size.layer before (file_in_part part) }
     ensures told { OnOk result (ChecksBlocks D.conduct size.layer part.entry disk
         kept.old kept.new (W.contents writer.old) (W.contents writer.new)) }
@@ -153,7 +156,8 @@ fn check_known<D: Disk + Drop, W: Write>(
     requires ready { IsReadyPart size.layer part }
     requires length { geometry ≡ part.file.now.length }
     requires lawful { IsFileLength geometry }
-    requires tree { (before : List CheckedFile) × HasTree size.layer before (file_in_part part) kept.old
+    requires tree { (before : List CheckedFile) × HasTree size.layer before
+        (file_in_part part) kept.old
         × KnowsOwn size.layer before (file_in_part part) }
     ensures told { OnOk result (ChecksBlocks D.conduct size.layer part.entry disk
         kept.old kept.new (W.contents writer.old) (W.contents writer.new)) }
@@ -172,7 +176,8 @@ fn check_known<D: Disk + Drop, W: Write>(
 fn tell_absent<W: Write>(alloc: Global, part: FilePart<'_>, writer: &mut W) -> Result<(), Fault>
     requires forward { part.share.from ≤ part.share.to }
     requires inside { part.share.to ≤ block_count part.file.now.length }
-    ensures told { OnOk result (TellsAbsent part.entry (W.contents writer.old) (W.contents writer.new)) }
+    ensures told { OnOk result (TellsAbsent part.entry (W.contents writer.old)
+        (W.contents writer.new)) }
     ensures fault { IfErr result (λ fault. (fault ≡ device) ⊎ (fault ≡ out_of_memory)) }
 {
     tell_first(alloc, part, writer)?;
@@ -181,7 +186,8 @@ fn tell_absent<W: Write>(alloc: Global, part: FilePart<'_>, writer: &mut W) -> R
 
 /// Tells that there is no file, where the part has the byte at which it would begin.
 fn tell_first<W: Write>(alloc: Global, part: FilePart<'_>, writer: &mut W) -> Result<(), Fault>
-    ensures told { OnOk result (TellsFirst part.entry (W.contents writer.old) (W.contents writer.new)) }
+    ensures told { OnOk result (TellsFirst part.entry (W.contents writer.old)
+        (W.contents writer.new)) }
     ensures fault { IfErr result (λ fault. (fault ≡ device) ⊎ (fault ≡ out_of_memory)) }
 {
     if !part.share.is_first {
@@ -193,7 +199,8 @@ fn tell_first<W: Write>(alloc: Global, part: FilePart<'_>, writer: &mut W) -> Re
 /// Tells of the blocks that a part has of a file which is not there, if there are some.
 fn tell_missing<W: Write>(alloc: Global, part: FilePart<'_>, writer: &mut W) -> Result<(), Fault>
     requires { part.share.from ≤ part.share.to }
-    ensures told { OnOk result (TellsMissing part.entry (W.contents writer.old) (W.contents writer.new)) }
+    ensures told { OnOk result (TellsMissing part.entry (W.contents writer.old)
+        (W.contents writer.new)) }
     ensures fault { IfErr result (λ fault. (fault ≡ device) ⊎ (fault ≡ out_of_memory)) }
 {
     if part.share.from == part.share.to {

@@ -1,15 +1,12 @@
 -- The words in a lane, of vectors that are read and set one by one.
-use Rattle.std.proofs.Common.{◌≡◌, ℕ, zero, suc, ◌+◌, ◌-◌, ◌<◌, inl, inr, List, [], length, slice_index, slice_set, arith, refl}
-use Rattle.std.proofs.lemmas.List.{length-map, map-set}
+use Rattle.std.proofs.Common.{◌≡◌, ℕ, zero, suc, ◌+◌, ◌-◌, ◌<◌, inl, inr, List, [], slice_index, slice_set, arith, refl}
+use Rattle.std.proofs.lemmas.List.{map-set}
 use Rattle.std.proofs.Math.ListN.{get_or-map}
 use Rattle.std.proofs.lemmas.Bool.{cases_lt}
 use Rattle.bt_lanes.specs.LaneSteps.{lane_word, lane_of, lane_of_eight}
 
 pub slice_index-lane_of : (vectors : List (List ℕ)) (j i : ℕ) → slice_index (lane_of j vectors) i ≡ lane_word vectors i j
 slice_index-lane_of vectors j i = get_or-map (λ vector. slice_index vector j) vectors i []
-
-pub length-lane_of : (vectors : List (List ℕ)) (j : ℕ) → length (lane_of j vectors) ≡ length vectors
-length-lane_of vectors j = length-map vectors (λ vector. slice_index vector j)
 
 pub lane_of-set : (vectors : List (List ℕ)) (j i : ℕ) (vector : List ℕ)
     → lane_of j (slice_set vectors i vector) ≡ slice_set (lane_of j vectors) i (slice_index vector j)

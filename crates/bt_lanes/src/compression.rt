@@ -104,7 +104,8 @@ fn temp2(a: u32x8, b: u32x8, c: u32x8) -> u32x8
 #[inline(always)]
 fn round(variables: HashValues, constant: u32, words: u32x8) -> HashValues
     ensures { (j : ℕ) → j < 8
-        → lane_of_eight j result ≡ round (lane_of_eight j variables) constant (slice_index words j) }
+        → lane_of_eight j result ≡ round (lane_of_eight j variables) constant
+        (slice_index words j) }
 {
     let [a, b, c, d, e, f, g, h] = variables;
     let temp1 = temp1(e, f, g, h, constant, words);

@@ -40,7 +40,8 @@ fn digest(words: &[[u32; 8]; 8], lane: usize) -> Hash32
 
 /// Each hash value, as bytes.
 fn digests(values: HashValues) -> [Hash32; 8]
-    ensures { (j : ℕ) → j < 8 → slice_index_or result j [] ≡ digest_bytes (lane_of_eight j values) 8 }
+    ensures { (j : ℕ) → j < 8 → slice_index_or result j [] ≡ digest_bytes
+        (lane_of_eight j values) 8 }
 {
     let words = [
         values[0].to_array(),

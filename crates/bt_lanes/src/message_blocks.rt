@@ -27,8 +27,10 @@ fn row_at(message: &[u8], at: usize) -> u32x8
 /// The words of both vectors in turns: those of the lower lanes, and those of the upper lanes.
 #[inline(always)]
 fn take_turns(a: u32x8, b: u32x8) -> (u32x8, u32x8)
-    ensures lower { (j : ℕ) → j < 8 → slice_index result.0 j ≡ lane_word (a ∷ b ∷ []) (j % 2) (j / 2) }
-    ensures upper { (j : ℕ) → j < 8 → slice_index result.1 j ≡ lane_word (a ∷ b ∷ []) (j % 2) (4 + j / 2) }
+    ensures lower { (j : ℕ) → j < 8 → slice_index result.0 j ≡ lane_word (a ∷ b ∷ [])
+        (j % 2) (j / 2) }
+    ensures upper { (j : ℕ) → j < 8 → slice_index result.1 j ≡ lane_word (a ∷ b ∷ []) (j % 2)
+        (4 + j / 2) }
 {
     a.interleave(b)
 }
@@ -93,7 +95,8 @@ pub(crate) fn absorb(values: HashValues, messages: &[&[u8]; 8], count: usize) ->
     requires bounded { count * 64 < 2 ^ 64 }
     requires within { (j : ℕ) → j < 8 → count * 64 ≤ length (message_at messages.now j) }
     ensures { (j : ℕ) → j < 8
-        → lane_of_eight j result ≡ hash_after (lane_of_eight j values) (message_at messages.now j) count }
+        → lane_of_eight j result ≡ hash_after (lane_of_eight j values)
+        (message_at messages.now j) count }
 {
     let mut values = values;
     'absorbed: for i in 0..count {

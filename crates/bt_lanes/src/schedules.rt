@@ -38,7 +38,8 @@ fn next_row(schedules: &Schedules, t: usize) -> [u32; 8]
 /// The schedules of eight message blocks.
 #[inline(always)]
 pub(crate) fn schedules(blocks: &MessageBlocks) -> Schedules
-    ensures { (j k : ℕ) (block : List ℕ) → j < 8 → k < 64 → IsBlockWords block (lane_of j blocks.now)
+    ensures { (j k : ℕ) (block : List ℕ) → j < 8 → k < 64 → IsBlockWords block
+        (lane_of j blocks.now)
         → lane_word result k j ≡ slice_index (schedule block 48) k }
 {
     let mut schedules = [[0; 8]; 64];

@@ -1,10 +1,8 @@
 -- Why a log is not opened in a file, by why one of its steps failed.
-use Rattle.std.proofs.Common.{◌≡◌, ◌≢◌, ◌⊎◌, inl, inr, ℕ, List, Option, Result, Ok, Err, IfErr, refl, sym, subst}
+use Rattle.std.proofs.Common.{◌≡◌, ◌⊎◌, inl, inr, ℕ, List, Option, Result, Ok, Err, IfErr, sym, subst}
 use Rattle.std.specs.Prelude.{⊤, IfOk, IsErrAnd, OnOk}
 use Rattle.bt_disk.specs.declared.opening.FileIdentity.{FileIdentity}
-use Rattle.bt_folder.specs.Lookup.{IsListingError, Lists, Tells}
-use Rattle.bt_folder.specs.declared.folder_names.ListingError.{ListingError}
-use Rattle.bt_folder.specs.declared.folder_names.ListingError.TheVariants.{Device as CallFailed, OutOfMemory as NoMemory}
+use Rattle.bt_folder.specs.Lookup.{Lists, Tells}
 use Rattle.bt_folder.specs.declared.known_files.KnownFiles.{KnownFiles}
 use Rattle.bt_meta.specs.Files.{File}
 use Rattle.bt_meta.specs.Torrent.{Metainfo}
@@ -13,22 +11,12 @@ use Rattle.bt_check.specs.declared.fault.Fault.{Fault}
 use Rattle.bt_log_file.specs.Device.{LogDiskView, new_log_device}
 use Rattle.bt_log_file.specs.Looking.{IsDataFileFault}
 use Rattle.bt_log_file.specs.Names.{HasFileByName, HasNameOfFile, HasNoFileByName}
-use Rattle.bt_log_file.specs.Opening.{IsCallFault, IsCallFaultBy, IsCallFaultOf, IsFileFault, IsLogFault, IsLogFaultBy, IsLogFaultOf, IsNameFault, listing_fault}
+use Rattle.bt_log_file.specs.Opening.{IsCallFault, IsCallFaultBy, IsCallFaultOf, IsFileFault, IsLogFault, IsLogFaultBy, IsLogFaultOf, IsNameFault}
 
 -- what holds of a fault holds where it is passed on
 pub passed_on : {T : Type 0} (r : Result T Fault) (fault : Fault) (P : Fault → Type 0) → IsErrAnd r (λ told. told ≡ fault) → P fault → IfErr r P
 passed_on (Ok x) fault P told holds = tt
 passed_on (Err it) fault P told holds = subst P (sym told) holds
-
-device≢memory : CallFailed ≢ NoMemory
-device≢memory same = cc
-
--- a listing that failed is a call that did
-pub of_listing : (lists : Lists) (place : List ℕ) (error : ListingError) → IsListingError lists place error
-    → IsCallFaultBy (lists place (Err CallFailed)) (listing_fault error)
-of_listing lists place CallFailed (inl short) = absurd (device≢memory short)
-of_listing lists place CallFailed (inr told) = inl (refl, told)
-of_listing lists place NoMemory is = inr refl
 
 -- so of one of several calls
 pub of_call : (one all : Type 0) (fault : Fault) → (one → all) → IsCallFaultBy one fault → IsCallFaultBy all fault

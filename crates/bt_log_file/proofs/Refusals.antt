@@ -1,5 +1,5 @@
 -- Why a file is none for a log, since it is one of others.
-use Rattle.std.proofs.Common.{◌≡◌, ◌↔◌, ◌⊎◌, inl, inr, ℕ, ◌<◌, Bool, true, false, List, length, map, not, get_or, Option, Some, None, Result, Ok, Err, IfOk, refl, sym, ap, subst, arith, ◌+◌, ◌≤◌, ◌∙◌}
+use Rattle.std.proofs.Common.{◌≡◌, ◌↔◌, ◌⊎◌, inl, inr, ℕ, ◌<◌, Bool, true, false, List, length, map, get_or, Option, Some, None, Result, Ok, Err, IfOk, refl, sym, ap, subst, arith, ◌+◌, ◌≤◌, ◌∙◌}
 use Rattle.std.specs.Prelude.{IsTrue, MatchBool, OnOk, slice_get}
 use Rattle.std.specs.Bool.{OnFalse}
 use Rattle.std.specs.declared.alloc.AllocError.{AllocError}
@@ -9,15 +9,11 @@ use Rattle.std.proofs.lemmas.Option.{none-some, same_Some, slice_get-get_or, sli
 use Rattle.std.specs.Option.{option_map}
 use Rattle.bt_disk.specs.declared.opening.FileIdentity.{FileIdentity}
 use Rattle.bt_folder.specs.KnownFiles.{IsKnown}
-use Rattle.bt_folder.specs.Lookup.{Lists, Tells}
-use Rattle.bt_folder.specs.declared.folder_names.ListingError.{ListingError}
+use Rattle.bt_folder.specs.Lookup.{Tells}
 use Rattle.bt_folder.specs.declared.known_files.KnownFiles.{KnownFiles}
 use Rattle.bt_meta.specs.Files.{File, file_of}
 use Rattle.bt_meta.specs.declared.torrent.FileEntry.{FileEntry}
-use Rattle.bt_check.specs.Paths.{path_below}
-use Rattle.bt_log_file.specs.Folder.{folder_of}
 use Rattle.bt_log_file.specs.Looking.{HasFileAt, HasNoFileAt, IsFileAt, IsNoneAt}
-use Rattle.bt_log_file.specs.Names.{AreAlike, HasBoth, IsFileByName, IsFolderOf, IsNoFileByName}
 use Rattle.bt_log_file.specs.Opening.{IsAdded}
 
 -- ---- files by what the system tells of them
@@ -89,24 +85,3 @@ pub each_of_all : (P : File → Type 0) (entries : List FileEntry) (i : ℕ) →
     → (number : ℕ) (file : File) → slice_get (map file_of entries) number ≡ Some file → P file
 each_of_all P entries i all before number file here =
     before number file (omega (arith, all, slice_get_within (map file_of entries) number file here, length-map entries file_of)) here
-
--- two pairs of names that are the last of both are one
-names_same : (file : List (List ℕ)) (path name other name' other' : List ℕ) → AreAlike file path name other → AreAlike file path name' other'
-    → (name ≡ name') × (other ≡ other')
-names_same file path name other name' other' one two = (same_Some name name' (sym one.last ∙ two.last), same_Some other other' (sym one.others ∙ two.others))
-
--- whether a file is the one at a path by such names, by a listing of their folder
-pub by_listing : (tells : Tells) (lists : Lists) (dir : List ℕ) (file : List (List ℕ)) (path name other : List ℕ) (r : Result Bool ListingError)
-    → AreAlike file path name other → IsFolderOf tells (folder_of path) (path_below dir file) true
-    → IfOk r (λ lacks. HasBoth lists (folder_of path) name other (not lacks))
-    → IfOk r (λ is_name. MatchBool is_name (IsFileByName tells lists dir file path) (IsNoFileByName tells lists dir file path))
-by_listing tells lists dir file path name other (Ok true) names folder lacks =
-    record { name = name; other = other; names = names; is_folder = folder; lacks = lacks }
-by_listing tells lists dir file path name other (Ok false) names folder has = λ name' other' names'.
-    let same = names_same file path name other name' other' names names' in
-    inr (
-      folder,
-      subst (λ (n : List ℕ). HasBoth lists (folder_of path) n other' true) same.0
-          (subst (λ (o : List ℕ). HasBoth lists (folder_of path) name o true) same.1 has),
-    )
-by_listing tells lists dir file path name other (Err e) names folder lacks = tt

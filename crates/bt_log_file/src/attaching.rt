@@ -22,9 +22,11 @@ pub(crate) fn attach_log<R: LogFolder + Lookup, D: Disk + Drop>(
     requires free { IsFree
         (R.tells rt.now) (R.lists rt.now) others.now opened.opening.identity opened.path.now }
     requires kept { IsKeptIfEmpty (R.leads rt.now) (R.keeps rt.now) opened.opening opened.path.now }
-    ensures log { IfOk result (IsAttached D.conduct others.now.torrent.now.infohash opened.entry.disk) }
+    ensures log { IfOk result
+        (IsAttached D.conduct others.now.torrent.now.infohash opened.entry.disk) }
     ensures fault { let file = opened.entry
-        in let free = IsFree (R.tells rt.now) (R.lists rt.now) others.now file.opening.identity file.path.now
+        in let free = IsFree (R.tells rt.now) (R.lists rt.now) others.now file.opening.identity
+        file.path.now
         in IfErr result (IsAttachFault D.conduct others.now.torrent.now.infohash free file.disk) }
 {
     match ResumeLog::attach(rt.alloc(), opened.disk, others.torrent.infohash()) {

@@ -36,7 +36,8 @@ pub(crate) fn keep_name<R: LogFolder + Lookup, P: Watch, D>(
 ) -> Result<(), Fault>
     requires free { let file = opened.now
         in IsFree (R.tells rt.now) (R.lists rt.now) others.now file.opening.identity file.path.now }
-    ensures kept { OnOk result (HasFolderThat (R.leads rt.now) (R.keeps rt.now) opened.now.path.now) }
+    ensures kept { OnOk result (HasFolderThat (R.leads rt.now)
+        (R.keeps rt.now) opened.now.path.now) }
     ensures fault { let lost = HasFolderThat (R.leads rt.now) (R.loses rt.now) opened.now.path.now
         in IfErr result (IsCallFaultBy lost) }
 {
@@ -57,7 +58,8 @@ fn keep_folder<R: LogFolder, P: Watch>(rt: &R, watch: &P, folder: &str) -> Resul
 /// The path of a file once all links are followed. Where the system tells none, or one that is no text, it is the one
 /// given.
 fn real_path<R: LogFolder>(rt: &R, path: &str) -> Result<PathBuf, Fault>
-    ensures real { IfOk result (λ real. IsEndOfLinks (R.leads rt.now) path.now (path_buf_bytes real)) }
+    ensures real { IfOk result (λ real. IsEndOfLinks (R.leads rt.now) path.now
+        (path_buf_bytes real)) }
     ensures fault { IfErr result (λ fault. fault ≡ out_of_memory) }
 {
     real_or_given(rt.alloc(), rt.end_of_links(path), path)

@@ -24,7 +24,11 @@ impl<D> Model for GaplessDisk<D> {
 
     ghost Value = { GaplessView D };
 
-    ghost view = { λ d. record { inner = d.inner; is_gapless = d.is_gapless; refused = d.refused } };
+    ghost view = { λ d. record {
+      inner = d.inner;
+      is_gapless = d.is_gapless;
+      refused = d.refused;
+    } };
 }
 
 impl<D> GaplessDisk<D> {

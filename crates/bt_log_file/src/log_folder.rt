@@ -43,7 +43,8 @@ pub trait LogFolder: Files + AllocGlobal + Clone + Drop {
     /// place later is never written. Errors: it can't be opened or made, or is no regular one; memory is refused.
     fn open_log_file<'p>(&self, path: &'p str) -> Result<OpenedLog<'p, PooledDisk<Self>>, Fault>
         ensures path { IfOk result (λ opened. opened.path.now ≡ path.now) }
-        ensures file { IfOk result (λ opened. opened.disk ≡ new_log_file path.now opened.opening.identity) }
+        ensures file { IfOk result (λ opened. opened.disk
+            ≡ new_log_file path.now opened.opening.identity) }
         ensures opening { IfOk result (λ opened. opens self.now path.now opened.opening) }
         ensures fault { IfErr result (IsCallFaultBy (refuses self.now path.now)) };
 

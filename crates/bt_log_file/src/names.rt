@@ -98,7 +98,8 @@ fn last_name(file: &FilePath) -> Option<&str>
 
 /// Whether two names have the same capitals.
 fn are_alike(alloc: Global, name: &str, other: &str) -> Result<bool, AllocError>
-    ensures { IfOk result (λ alike. IsTrue alike ↔ (str_to_uppercase name.now ≡ str_to_uppercase other.now)) }
+    ensures { IfOk result (λ alike. IsTrue alike ↔ (str_to_uppercase name.now
+        ≡ str_to_uppercase other.now)) }
 {
     let capitals = name.to_uppercase(alloc)?;
     let others = other.to_uppercase(alloc)?;

@@ -47,12 +47,16 @@ pub fn open_log<'a, R: Files + AllocGlobal + Clone + Drop + Lookup + LogFolder, 
     ensures log { IfOk result (IsFurtherLog known.old torrent.now path.now known.new) }
     ensures own_name { OnOk result (HasNoFileByName
         (R.tells rt.now) (R.lists rt.now) dir.now torrent.now.files path.now) }
-    ensures kept { OnOk result (IsKeptFile (R.opens rt.now) (R.leads rt.now) (R.keeps rt.now) path.now) }
+    ensures kept { OnOk result (IsKeptFile (R.opens rt.now) (R.leads rt.now)
+        (R.keeps rt.now) path.now) }
     ensures fault { let failed = HasFailed (R.refuses rt.now) (R.lists rt.now) path.now
         in let lost = HasFolderThat (R.leads rt.now) (R.loses rt.now) path.now
-        in let named = HasFileByName (R.tells rt.now) (R.lists rt.now) dir.now torrent.now.files path.now
-        in let own = HasNoFileByName (R.tells rt.now) (R.lists rt.now) dir.now torrent.now.files path.now
-        in IfErr result (IsLogFaultBy (IsCallFaultOf failed lost) named own known.old torrent.now path.now) }
+        in let named = HasFileByName (R.tells rt.now)
+        (R.lists rt.now) dir.now torrent.now.files path.now
+        in let own = HasNoFileByName (R.tells rt.now)
+        (R.lists rt.now) dir.now torrent.now.files path.now
+        in IfErr result (IsLogFaultBy (IsCallFaultOf failed lost) named own known.old torrent.now
+        path.now) }
 {
     let opened = open_device(rt, watch, context, path)?;
     open_in_file(rt, watch, known, dir, torrent, opened)
@@ -78,8 +82,10 @@ fn open_in_file<'a, R: Lookup + LogFolder, P: Watch>(
     ensures fault { let path = opened.entry.path.now
         in let failed = HasFailed (R.refuses rt.now) (R.lists rt.now) path
         in let lost = HasFolderThat (R.leads rt.now) (R.loses rt.now) path
-        in let named = HasFileByName (R.tells rt.now) (R.lists rt.now) dir.now torrent.now.files path
-        in let own = HasNoFileByName (R.tells rt.now) (R.lists rt.now) dir.now torrent.now.files path
+        in let named = HasFileByName (R.tells rt.now)
+        (R.lists rt.now) dir.now torrent.now.files path
+        in let own = HasNoFileByName (R.tells rt.now)
+        (R.lists rt.now) dir.now torrent.now.files path
         in IfErr result (IsLogFaultOf known.old opened.entry.opening.identity torrent.now.infohash
         (IsCallFaultOf failed lost) named own opened.entry.disk) }
 {
@@ -113,7 +119,8 @@ fn refuse_known(known: &mut KnownFiles, identity: Option<FileIdentity>) -> Resul
 /// counts as none.
 fn is_further(known: &mut KnownFiles, identity: Option<FileIdentity>) -> Result<bool, AllocError>
     ensures is_further { IfOk result (λ is_further. MatchBool is_further
-        (IfSome identity (λ file. ¬ IsKnown known.old file)) (IsSomeAnd identity (IsKnown known.old))) }
+        (IfSome identity (λ file. ¬ IsKnown known.old file))
+        (IsSomeAnd identity (IsKnown known.old))) }
     ensures added { OnOk result (IsAdded known.old identity known.new) }
 {
     match identity {
@@ -155,7 +162,8 @@ fn has_own_name<R: Files + AllocGlobal + Clone + Drop + Lookup, P: Watch>(
     ensures is_own { let all = map file_of files.now in IfOk result (λ is_own. MatchBool is_own
         (HasNoFileByName (R.tells rt.now) (R.lists rt.now) dir.now all path.now)
         (HasFileByName (R.tells rt.now) (R.lists rt.now) dir.now all path.now)) }
-    ensures fault { IfErr result (IsCallFaultBy (R.lists rt.now (folder_of path.now) (Err CallFailed))) }
+    ensures fault { IfErr result (IsCallFaultBy (R.lists rt.now (folder_of path.now)
+        (Err CallFailed))) }
 {
     let is_own = own_or_fault(is_own_name(rt, dir, files, path));
     told(rt.alloc(), watch, FileCall::List, folder_of(path), is_own)

@@ -86,7 +86,8 @@ impl<'a, R: Files + AllocGlobal + Clone + Drop + Lookup, P: Watch> Disk for Touc
         ensures within { IfOk result (λ count. count ≤ length out.new) }
         ensures counted { self.new.file.failed ≡ count_after self.old.file.failed result }
         ensures as_honest { ⊥ ↔ ⊥ }
-        ensures answered { ⊥ → IsAnswered (new_history []) (read_call at out.new result) (new_history []) }
+        ensures answered { ⊥ → IsAnswered (new_history []) (read_call at out.new result)
+            (new_history []) }
     {
         self.is_touched = true;
         self.file.read_at(at, out)
@@ -97,7 +98,8 @@ impl<'a, R: Files + AllocGlobal + Clone + Drop + Lookup, P: Watch> Disk for Touc
         ensures is_synced { self.new.file.is_synced ≡ false }
         ensures counted { self.new.file.failed ≡ count_after self.old.file.failed result }
         ensures as_honest { ⊥ ↔ ⊥ }
-        ensures answered { ⊥ → IsAnswered (new_history []) (write_call at bytes.now result) (new_history []) }
+        ensures answered { ⊥ → IsAnswered (new_history []) (write_call at bytes.now result)
+            (new_history []) }
     {
         self.is_touched = true;
         self.file.write_at(at, bytes)
@@ -108,7 +110,8 @@ impl<'a, R: Files + AllocGlobal + Clone + Drop + Lookup, P: Watch> Disk for Touc
         ensures is_synced { self.new.file.is_synced ≡ false }
         ensures counted { self.new.file.failed ≡ count_after self.old.file.failed result }
         ensures as_honest { ⊥ ↔ ⊥ }
-        ensures answered { ⊥ → IsAnswered (new_history []) (set_len_call len result) (new_history []) }
+        ensures answered { ⊥ → IsAnswered (new_history []) (set_len_call len result)
+            (new_history []) }
     {
         self.is_touched = true;
         self.file.set_len(len)
@@ -117,7 +120,8 @@ impl<'a, R: Files + AllocGlobal + Clone + Drop + Lookup, P: Watch> Disk for Touc
     fn sync(&mut self) -> Result<(), DeviceFault>
         ensures is_touched { self.new.is_touched ≡ self.old.is_touched }
         ensures untouched { self.old.is_touched ≡ false → (result ≡ Ok tt) × (self.new ≡ self.old) }
-        ensures is_synced { self.old.is_touched ≡ true → OnOk result (self.new.file.is_synced ≡ true) }
+        ensures is_synced { self.old.is_touched ≡ true → OnOk result
+            (self.new.file.is_synced ≡ true) }
         ensures counted { self.new.file.failed ≡ count_after self.old.file.failed result }
         ensures as_honest { ⊥ ↔ ⊥ }
         ensures answered { ⊥ → IsAnswered (new_history []) (sync_call result) (new_history []) }

@@ -18,9 +18,6 @@ use Rattle.bt_disk.specs.Conduct.{Conduct}
 
 -- ---- reads
 
-abbrev AllReads : DeviceCalls → Type 0
-AllReads calls = (file : ℕ) (c : Call) → Contains calls (file, c) → IsRead c
-
 is_read : (n : ℕ) (r : BlockRead) → IsRead (call_of n r)
 is_read n (given i bytes) = tt
 is_read n (failed i) = tt

@@ -1,13 +1,10 @@
 -- Lemmas on the entries of a folder: how they are put, and what paths they have.
-use Rattle.std.proofs.Common.{String, Global, ◌≡◌, ◌++◌, ℕ, refl, subst, List, [], ◌∷◌, map, string_bytes, length, take, sym, ◌∙◌, ap, arith}
+use Rattle.std.proofs.Common.{String, Global, ◌≡◌, ◌++◌, ℕ, refl, List, [], ◌∷◌, map, string_bytes, length, take, sym, ◌∙◌, ap, arith}
 use Rattle.std.proofs.lemmas.List.{append_assoc, append-nil, length_push, map-append, reverse-append, take-map}
 use Rattle.std.proofs.lemmas.List.Elements.{All-nil, All-cons, All-push, All-append}
 use Rattle.std.specs.Prelude.{reverse}
 use Rattle.std.specs.List.{All}
-use Rattle.std.specs.List.Sorted.{IsStrictlySortedBy}
-use Rattle.std.specs.String.{string_cmp}
 use Rattle.bt_make.specs.Folder.{HasElement, file_paths, path_behind, path_of_file}
-use Rattle.bt_make.specs.FolderSteps.{PutsEntries}
 use Rattle.bt_make.specs.declared.folder.EntryKind.{EntryKind}
 use Rattle.bt_make.specs.declared.folder.EntryKind.TheVariants.{File, Folder}
 use Rattle.bt_make.specs.declared.folder.FolderEntry.{FolderEntry}
@@ -59,17 +56,6 @@ pub last_key : {X : Type 0} (old new : List (String Global × X)) (entry : Strin
     → name ≡ entry.0 → map (λ e. e.0) old ≡ map (λ e. e.0) new ++ name ∷ []
 last_key old new entry name removal is =
     ap (map (λ e. e.0)) removal ∙ map-append (λ e. e.0) new (entry ∷ []) ∙ ap (λ n. map (λ e. e.0) new ++ n ∷ []) (sym is)
-
-pub puts_all : (depth : ℕ) (all left : List (String Global)) (old new : List FolderEntry) → IsStrictlySortedBy string_cmp all
-    → ArePut depth all left old new → left ≡ [] → PutsEntries depth old new
-puts_all depth all left old new sorted put none = record {
-  names = put.names;
-  ascending = subst (IsStrictlySortedBy string_cmp) (put.split ∙ ap (λ l. l ++ put.names) none) sorted;
-  entries = put.entries;
-  behind = put.behind;
-  named = put.named;
-  inside = put.inside;
-}
 
 -- ---- paths
 

@@ -3,5 +3,4 @@ pub mod FolderOrder
 pub mod FolderFiles
 pub mod MadeFiles
 pub mod MakeFault
-pub mod AtomicFile
 pub mod AtomicFilePath

@@ -1,17 +1,12 @@
 -- Lemmas on what is made of a folder, and why no torrent is made of it.
-use Rattle.std.proofs.Common.{◌≡◌, ℕ, inl, inr, List, Result, Ok, Err, IfOk, IfErr, map, refl, sym, subst}
+use Rattle.std.proofs.Common.{◌≡◌, ℕ, inr, List, Result, Ok, Err, IfOk, IfErr, map, refl, subst}
 use Rattle.std.specs.List.{All}
-use Rattle.bt_meta.specs.Faults.{first_fault}
 use Rattle.bt_meta.specs.GivenFiles.{given_of}
 use Rattle.bt_meta.specs.Writer.{IsNotMade}
-use Rattle.bt_meta.specs.Reader.{IsRefused}
-use Rattle.bt_meta.specs.Torrent.{Metainfo, IsTorrent}
-use Rattle.bt_meta.specs.declared.error.MetaError.{MetaError}
 use Rattle.bt_meta.specs.declared.writer.Made.{Made}
 use Rattle.bt_meta.specs.declared.writer.MakeError.{MakeError}
-use Rattle.bt_meta.proofs.LawReadBack.{refused_for_memory}
 use Rattle.bt_make.specs.Command.{HasContent, IsFilesFault, IsMakeFault, IsMakeTorrent, IsTorrentOf, Paths, paths_of}
-use Rattle.bt_check.specs.Fault.{torrent_fault, make_fault}
+use Rattle.bt_check.specs.Fault.{make_fault}
 use Rattle.bt_check.specs.declared.fault.Fault.{Fault}
 use Rattle.bt_make.specs.declared.new_torrent.NewTorrent.{NewTorrent}
 
@@ -28,13 +23,6 @@ files_refused paths name piece_length layer files given text e each digested nam
       (subst (λ l. IsNotMade text piece_length (map given_of l) e) are refused);
   is = refl;
 })
-
--- what was made is read, unless there is no memory
-pub unread_for_memory : (paths : Paths) (name : List ℕ) (piece_length : ℕ) (made text : List ℕ) (torrent : Metainfo) (e : MetaError) → IsTorrent made torrent
-    → text ≡ made → IsRefused first_fault text e → IsFilesFault paths name piece_length (torrent_fault e)
-unread_for_memory paths name piece_length made text torrent e spelled same refused =
-    let alone = refused_for_memory made torrent e spelled (subst (λ t. IsRefused first_fault t e) same refused) in
-    subst (λ cause. IsFilesFault paths name piece_length (torrent_fault cause)) (sym alone) (inl (inr (inl refl)))
 
 -- the torrent of some files is the folder's
 pub made_of_folder : (r : Result NewTorrent Fault) (paths : Paths) (name text : List ℕ) (size piece_length : ℕ) → text ≡ name → size ≡ piece_length

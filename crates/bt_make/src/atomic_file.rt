@@ -69,7 +69,8 @@ pub fn publish<R: Files + AllocGlobal, P: Watch, O: Write>(
     writer: &mut O,
 ) -> Result<(), Fault>
     ensures line { OnOk result
-        (Appends (O.contents writer.old) (O.contents writer.new) (infohash_line ready.now.torrent.infohash)) }
+        (Appends (O.contents writer.old) (O.contents writer.new)
+        (infohash_line ready.now.torrent.infohash)) }
     ensures infohash { IsInfohashOf ready.now.torrent.text.items ready.now.torrent.infohash }
 
     // the file comes first: nothing is told where memory is short
@@ -346,7 +347,8 @@ fn numbered_part<R: Files + AllocGlobal>(
     number: u32,
 ) -> Result<Option<(String, R::File)>, Fault>
     ensures part { IfOk result
-        (λ made. IfSome made (λ part. IsSibling path.now (part_name number) (string_bytes part.0))) }
+        (λ made. IfSome made (λ part. IsSibling path.now (part_name number)
+        (string_bytes part.0))) }
     ensures fault { IfErr result (λ fault. (fault ≡ device) ⊎ (fault ≡ out_of_memory)) }
 {
     let part = part_path(rt.alloc(), path, number)?;

@@ -50,7 +50,8 @@ pub fn make<R: Files + AllocGlobal + Clone + Drop, P: Watch>(
     watch: &P,
     request: MakeTask<'_>,
 ) -> Result<NewTorrent, Fault>
-    ensures torrent { IfOk result (IsMakeTorrent request.entry.name.now request.entry.piece_length) }
+    ensures torrent { IfOk result
+        (IsMakeTorrent request.entry.name.now request.entry.piece_length) }
     ensures length { ¬ IsPieceLength request.entry.piece_length
         → IsErrAnd result (λ fault. fault ≡ make_fault PieceLength) }
     ensures fault { IfErr result (IsMakeFault request.entry.name.now request.entry.piece_length) }
@@ -237,11 +238,13 @@ fn measured_files<R: Files + AllocGlobal, P: Watch>(
     entries: Vec<FolderEntry>,
     size: PieceSize,
 ) -> Result<Vec<FolderFile>, Fault>
-    ensures each { IfOk result (λ files. map elements_in files.items ≡ file_paths [] entries.items) }
+    ensures each { IfOk result (λ files. map elements_in files.items
+        ≡ file_paths [] entries.items) }
     ensures faultless { IfOk result (λ files. first_count_refusal size.bytes files.items ≡ None) }
     ensures short { IfOk result (λ files. All (λ file. file.length ≤ max_file_length) files.items) }
     ensures count { IfOk result (λ files. length files.items ≤ max_file_count) }
-    ensures pieces { IfOk result (λ files. total_piece_count size.bytes files.items ≤ max_piece_count) }
+    ensures pieces { IfOk result (λ files. total_piece_count size.bytes files.items
+        ≤ max_piece_count) }
     ensures fault { IfErr result (IsMeasuringFault (file_paths [] entries.items) size.bytes) }
 {
     let mut counts = Counts::new();
@@ -295,7 +298,8 @@ fn counted<P: Watch>(
         ≡ count_refusal counts.files counts.pieces size.bytes (length path.now) bytes }
     ensures short { OnOk result (bytes ≤ max_file_length) }
     ensures files { IfOk result (λ next. next.files ≡ counts.files + 1) }
-    ensures pieces { IfOk result (λ next. next.pieces ≡ counts.pieces + piece_count size.bytes bytes) }
+    ensures pieces { IfOk result (λ next. next.pieces ≡ counts.pieces
+        + piece_count size.bytes bytes) }
 {
     let outcome = counts.with(path.len(), bytes, size);
     if outcome.is_err() {

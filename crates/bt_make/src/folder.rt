@@ -101,7 +101,8 @@ fn go_on<R: Files + AllocGlobal + Clone + Drop, P: Watch>(
     walk: &mut Walk,
 ) -> Result<bool, Fault>
     ensures went { IfOk result (λ more. more ≡ true → GoesOn walk.old walk.new) }
-    ensures ended { IfOk result (λ more. more ≡ false → walk.new.entries.items ≡ walk.old.entries.items) }
+    ensures ended { IfOk result (λ more. more ≡ false → walk.new.entries.items
+        ≡ walk.old.entries.items) }
     ensures fault { IfErr result IsListingFault }
 {
     let Some(entry) = walk.waiting.pop() else {
@@ -153,7 +154,8 @@ fn push_entries<R: Files + AllocGlobal + Clone + Drop, P: Watch>(
     folder: &[String],
     waiting: &mut Vec<FolderEntry>,
 ) -> Result<(), Fault>
-    ensures put { OnOk result (PutsEntries (length folder.now) waiting.old.items waiting.new.items) }
+    ensures put { OnOk result
+        (PutsEntries (length folder.now) waiting.old.items waiting.new.items) }
     ensures fault { IfErr result IsListingFault }
 {
     let mut names = names_below(rt, watch, dir, folder)?;

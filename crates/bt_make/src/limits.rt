@@ -37,7 +37,8 @@ impl Counts {
             ≡ count_refusal self.files self.pieces size.bytes elements length }
         ensures short { OnOk result (length ≤ max_file_length) }
         ensures files { IfOk result (λ counts. counts.files ≡ self.files + 1) }
-        ensures pieces { IfOk result (λ counts. counts.pieces ≡ self.pieces + piece_count size.bytes length) }
+        ensures pieces { IfOk result (λ counts. counts.pieces ≡ self.pieces
+            + piece_count size.bytes length) }
     {
         if length > MAX_FILE_LENGTH {
             return Err(MakeError::FileLength);

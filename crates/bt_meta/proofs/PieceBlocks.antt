@@ -264,9 +264,6 @@ module _ (torrent : Metainfo) (items : List FileEntry) (said : map file_of items
   as_many : length torrent.files ≡ length items
   as_many = ap (λ files. length files) (sym said) ∙ length-map items file_of
 
-  pub no_such_file : length items ≤ file → ¬ HasBlock torrent file block
-  no_such_file past h = absurd (omega (arith, as_many, listed torrent file block h))
-
   module _ (e : FileEntry) (at : e ≡ get_or items file e) (within : file < length items) where
     here : (d : File) → get_or torrent.files file d ≡ file_of e
     here = entry_at torrent.files items said file e at (omega (arith, as_many))
@@ -280,11 +277,6 @@ module _ (torrent : Metainfo) (items : List FileEntry) (said : map file_of items
       },
       refl,
     )
-
-    pub no_such_block : e.length ≤ 16384 * block → ¬ HasBlock torrent file block
-    no_such_block past h =
-        let same : h.entry ≡ file_of e = sym (found torrent file block h h.entry) ∙ here h.entry in
-        absurd (omega (arith, begins_inside torrent file block h, ap (λ f. f.length) same))
 
     module _ (inside : 16384 * block < e.length) (m : ℕ) (is : HasPieceOf torrent.piece_length m) where
       pub entry_piece : IsLaidOut torrent.piece_length torrent.files → e.first_piece + block / m < total_pieces torrent

@@ -3,7 +3,6 @@ use Rattle.bt_meta.proofs.Base.{◌≡◌, ◌≢◌, ℕ, Bool, true, false, Li
 use Rattle.bt_meta.specs.PropertySteps.{HasLengths}
 use Rattle.bt_meta.specs.LayerSteps.{AreRight, IsNotedRight}
 use Rattle.bt_bencode.specs.Value.{Data}
-use Rattle.bt_meta.specs.Faults.{layer_check_for}
 use Rattle.std.specs.Prelude.{◌⊎◌}
 use Rattle.std.proofs.Common.{inl, inr}
 
@@ -57,13 +56,6 @@ pub noted_right : (old new : Lengths) (root : List ℕ) (length : ℕ)
     → IsNotedRight old new root length
 noted_right old new root length noted other n =
     noted_one _ length n (length_at old other) _ (λ e. sym ((bytes_eq-Decides root other).0 (sym (is_eq-slice_cmp root other) ∙ e))) (noted other)
-
-pub right_more : (n : ℕ) (layers : Data) (old new : Lengths) {root : List ℕ} {length : ℕ} → AreRight n layers old
-    → IsNotedRight old new root length → layer_check_for n layers length root ≡ None → AreRight n layers new
-right_more n layers old new right noted faultless other m h = elim (noted other m h) [
-  | inl before ↦ right other m before
-  | inr now ↦ rw (now.0, now.1) faultless
-]
 
 pub none_right : (n : ℕ) (layers : Data) (none : Lengths) → none.entries ≡ [] → AreRight n layers none
 none_right n layers none empty root length h =

@@ -122,7 +122,8 @@ fn open_last(alloc: Global, folder: Entries, name: &[u8]) -> Result<(Entries, En
 /// The entries of a folder of this name. Any other entry is handed back.
 fn entries_at(last: (Vec<u8>, Value), name: &[u8]) -> Result<Entries, (Vec<u8>, Value)>
     ensures entries { IfOk result (λ inner.
-        opened_entry name.now last.0.items (data_of last.1) ≡ (no_entries, entries_of inner.items)) }
+        opened_entry name.now last.0.items (data_of last.1)
+        ≡ (no_entries, entries_of inner.items)) }
     ensures back { IfErr result (λ other.
         opened_entry name.now last.0.items (data_of last.1)
         ≡ (entry other.0.items (data_of other.1) no_entries, no_entries)) }

@@ -32,7 +32,8 @@ pub(crate) fn string<'a>(value: &'a Value, key: &[u8]) -> Option<&'a [u8]>
 /// The value at the key, which is a dictionary.
 #[tactic(auto, unfolding(crate::specs::Fields::dictionary_at))]
 pub(crate) fn dictionary<'a>(value: &'a Value, key: &[u8]) -> Option<&'a Value>
-    ensures { option_map data_of (option_copied result) ≡ dictionary_at (data_of value.now) key.now }
+    ensures { option_map data_of (option_copied result) ≡ dictionary_at
+        (data_of value.now) key.now }
 {
     as_dictionary(field(value, key)?)
 }

@@ -34,12 +34,15 @@ pub(crate) fn add_layers(
     requires short { AreShort (map file_of files.old.items) }
     requires ascending { HasAscendingKeys (data_of torrent.now) }
     ensures whole { OnOk result (map file_of files.new.items
-        ≡ map (with_layer piece_length (layers_of (data_of torrent.now))) (map file_of files.old.items)) }
+        ≡ map (with_layer piece_length (layers_of (data_of torrent.now)))
+        (map file_of files.old.items)) }
     ensures faultless { OnOk result (
-        first_of (layer_faults piece_length (layers_of (data_of torrent.now)) (map file_of files.old.items))
+        first_of (layer_faults piece_length (layers_of (data_of torrent.now))
+        (map file_of files.old.items))
         ≡ None) }
     ensures refused { IfErr result (Refuses (first_of (
-        layer_faults piece_length (layers_of (data_of torrent.now)) (map file_of files.old.items)))) }
+        layer_faults piece_length (layers_of (data_of torrent.now))
+        (map file_of files.old.items)))) }
 {
     let entries = layer_entries(torrent);
     add_layers_of(alloc, files, entries, piece_length)
@@ -49,7 +52,8 @@ pub(crate) fn add_layers(
 #[tactic(auto, using(crate::proofs::Steps::layers_there), unfolding(crate::specs::Faults::layers_of, crate::specs::Fields::dictionary_at, crate::specs::Fields::string_at))]
 fn layer_entries(torrent: &Value) -> &[(Vec<u8>, Value)]
     requires { HasAscendingKeys (data_of torrent.now) }
-    ensures strings { HasStringsOf (dictionary_of (entries_of result.now)) (layers_of (data_of torrent.now)) }
+    ensures strings { HasStringsOf (dictionary_of (entries_of result.now))
+        (layers_of (data_of torrent.now)) }
     ensures ascending { EntriesAscend (entries_of result.now) }
 {
     match dictionary(torrent, b"piece layers") {
@@ -69,12 +73,15 @@ fn add_layers_of(
     requires short { AreShort (map file_of files.old) }
     requires ascending { EntriesAscend (entries_of entries.now) }
     ensures whole { OnOk result (map file_of files.new
-        ≡ map (with_layer piece_length (dictionary_of (entries_of entries.now))) (map file_of files.old)) }
+        ≡ map (with_layer piece_length (dictionary_of (entries_of entries.now)))
+        (map file_of files.old)) }
     ensures faultless { OnOk result (
-        first_of (layer_faults piece_length (dictionary_of (entries_of entries.now)) (map file_of files.old))
+        first_of (layer_faults piece_length (dictionary_of (entries_of entries.now))
+        (map file_of files.old))
         ≡ None) }
     ensures refused { IfErr result (Refuses (first_of (
-        layer_faults piece_length (dictionary_of (entries_of entries.now)) (map file_of files.old)))) }
+        layer_faults piece_length (dictionary_of (entries_of entries.now))
+        (map file_of files.old)))) }
 {
     let mut right = BTreeMap::new(alloc);
     for file in files.iter_mut() {
@@ -98,7 +105,8 @@ fn add_layer(
     ensures whole { OnOk result (file_of file.new
         ≡ with_layer piece_length (dictionary_of (entries_of entries.now)) (file_of file.old)) }
     ensures faultless { OnOk result (
-        layer_fault piece_length (dictionary_of (entries_of entries.now)) (file_of file.old) ≡ None) }
+        layer_fault piece_length (dictionary_of (entries_of entries.now))
+        (file_of file.old) ≡ None) }
     ensures refused { IfErr result (Refuses (
         layer_fault piece_length (dictionary_of (entries_of entries.now)) (file_of file.old))) }
     ensures right { OnOk result (
@@ -129,7 +137,8 @@ fn layer_at<'a>(entries: &'a [(Vec<u8>, Value)], root: &[u8]) -> Option<&'a [u8]
 /// The value of the key among ascending entries.
 fn find<'a>(entries: &'a [(Vec<u8>, Value)], key: &[u8]) -> Option<&'a Value>
     requires { EntriesAscend (entries_of entries.now) }
-    ensures { option_map data_of (option_copied result) ≡ first_value_of (entries_of entries.now) key.now }
+    ensures { option_map data_of (option_copied result) ≡ first_value_of
+        (entries_of entries.now) key.now }
 {
     match entries.binary_search_by(|(name, _)| name.as_slice().cmp(key)) {
         Ok(index) => Some(&entries[index].1),
@@ -151,8 +160,10 @@ fn check_once(
     requires short { length ≤ max_file_length }
     requires noted { length_at right.old root.now ≡ Some length
         → layer_bytes_fault piece_length length root.now layer.now ≡ None }
-    ensures faultless { OnOk result (layer_bytes_fault piece_length length root.now layer.now ≡ None) }
-    ensures refused { IfErr result (Refuses (layer_bytes_fault piece_length length root.now layer.now)) }
+    ensures faultless { OnOk result
+        (layer_bytes_fault piece_length length root.now layer.now ≡ None) }
+    ensures refused { IfErr result
+        (Refuses (layer_bytes_fault piece_length length root.now layer.now)) }
     ensures noted { OnOk result (IsNotedRight right.old right.new root.now length) }
 {
     if right.get(root) == Some(&length) {

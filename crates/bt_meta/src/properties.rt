@@ -60,7 +60,8 @@ pub(crate) fn note_length(
 /// The element as text, if it may stand in a path.
 #[tactic(auto, using(crate::proofs::Steps::path_element_steps), unfolding(crate::specs::Faults::is_path_element))]
 pub(crate) fn path_element(element: &[u8]) -> Option<&str>
-    ensures { option_copied result ≡ (if is_path_element element.now then Some element.now else None) }
+    ensures { option_copied result
+        ≡ (if is_path_element element.now then Some element.now else None) }
 {
     if is_dots(element) || element.contains(&b'/') || element.contains(&0) {
         return None;
@@ -97,7 +98,8 @@ fn file_length(properties: &Value) -> Option<u64>
 fn file_root(properties: &Value, length: u64) -> Option<Hash32>
     requires { length ≡ length_in (data_of properties.now) }
     ensures { result ≡ (
-        if has_lawful_root (data_of properties.now) then Some (root_in (data_of properties.now)) else None) }
+        if has_lawful_root (data_of properties.now) then Some (root_in (data_of properties.now))
+        else None) }
 {
     if length == 0 {
         return Some([0; 32]);

@@ -86,7 +86,8 @@ fn info_in(alloc: Global, info: &Value, text: &[u8]) -> Result<Torrent, MetaErro
     requires ascending { HasAscendingKeys (data_of info.now) }
     requires spelled { spelling_of (data_of info.now) ≡ text.now }
     ensures faultless { IfOk result (λ _. first_info_fault (data_of info.now) ≡ None) }
-    ensures described { IfOk result (λ torrent. torrent ≡ metainfo_of (data_of info.now) no_dictionary) }
+    ensures described { IfOk result (λ torrent. torrent ≡ metainfo_of
+        (data_of info.now) no_dictionary) }
     ensures lawful { IfOk result (λ torrent. IsLawful torrent.piece_length torrent.files) }
     ensures refused { IfErr result (Refuses (first_info_fault (data_of info.now))) }
 {
@@ -110,7 +111,8 @@ fn torrent_of(
     requires counted { listing.pieces ≡ pieces_in head.now.piece_length listing.files.items }
     requires lawful { IsLawful head.now.piece_length (map file_of listing.files.items) }
     ensures { IfOk result (λ torrent.
-        torrent ≡ metainfo_with head.now.name.now head.now.piece_length infohash listing.files.items) }
+        torrent ≡ metainfo_with head.now.name.now head.now.piece_length infohash
+        listing.files.items) }
 {
     let name = Vec::from_slice(alloc, head.name)?;
     Ok(Torrent::new(
@@ -159,7 +161,8 @@ fn read_head(info: &Value) -> Result<Head<'_>, MetaError>
 
 /// Refuses another `meta version` than 2.
 fn check_version(info: &Value) -> Result<(), MetaError>
-    ensures { result_err result ≡ version_check (integer_at (data_of info.now) (codes "meta version")) }
+    ensures { result_err result ≡ version_check (integer_at (data_of info.now)
+        (codes "meta version")) }
 {
     match integer(info, b"meta version") {
         None => Err(MetaError::NotV2),

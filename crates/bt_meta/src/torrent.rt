@@ -63,7 +63,8 @@ impl Model for Torrent {
     ghost view = { λ t. metainfo_with t.name.items t.piece_length t.infohash t.files.items };
 
     ghost invariant = { λ t.
-        (t.pieces ≡ total_pieces (metainfo_with t.name.items t.piece_length t.infohash t.files.items))
+        (t.pieces ≡ total_pieces
+        (metainfo_with t.name.items t.piece_length t.infohash t.files.items))
         × IsLawful t.piece_length (map file_of t.files.items) };
 }
 
@@ -75,7 +76,8 @@ impl Torrent {
         infohash: Hash32,
         files: Vec<FileEntry>,
     ) -> Self
-        requires counted { let torrent = metainfo_with name.items piece_length infohash files.items in
+        requires counted { let torrent = metainfo_with name.items piece_length infohash
+            files.items in
             pieces ≡ total_pieces torrent }
         requires lawful { IsLawful piece_length (map file_of files.items) }
         ensures { result ≡ metainfo_with name.items piece_length infohash files.items }

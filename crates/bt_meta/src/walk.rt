@@ -92,7 +92,8 @@ fn walk_folder(
         Passes piece_length
         (tree_entries_below (folder_elements path.now) (data_of folder.now)) walk.old walk.new) }
     ensures stopped { IfErr result (
-        Stops piece_length (tree_entries_below (folder_elements path.now) (data_of folder.now)) walk.old) }
+        Stops piece_length (tree_entries_below (folder_elements path.now) (data_of folder.now))
+        walk.old) }
 {
     let entries = match folder {
         Value::Dict(entries) => entries,
@@ -118,8 +119,10 @@ fn enter(
 ) -> Result<Option<FilePath>, MetaError>
     requires { is_piece_length piece_length ≡ true }
     ensures { MatchResult result
-        (Enters piece_length (folder_elements path.now) key.now (data_of value.now) walk.old walk.new)
-        (StopsAtEntry piece_length (folder_elements path.now) key.now (data_of value.now) walk.old) }
+        (Enters piece_length (folder_elements path.now) key.now
+        (data_of value.now) walk.old walk.new)
+        (StopsAtEntry piece_length (folder_elements path.now) key.now
+        (data_of value.now) walk.old) }
 {
     if key.is_empty() {
         return Ok(None);
@@ -147,7 +150,8 @@ fn enter(
 /// What the value is as an entry of a file tree, if it is one.
 #[tactic(auto, using(crate::proofs::Dictionaries::single_below), unfolding(crate::specs::Faults::is_node))]
 fn node_of(value: &Value) -> Option<Node<'_>>
-    ensures { MatchOption result (is_node (data_of value.now) ≡ false) (IsNodeOf (data_of value.now)) }
+    ensures { MatchOption result (is_node (data_of value.now) ≡ false)
+        (IsNodeOf (data_of value.now)) }
 {
     if !is_dictionary(value) {
         return None;
@@ -174,7 +178,8 @@ fn add_file(
     piece_length: u32,
 ) -> Result<(), MetaError>
     requires { is_piece_length piece_length ≡ true }
-    ensures passed { OnOk result (AtFile (folder_elements folder.now) name.now (data_of properties.now) (λ p.
+    ensures passed { OnOk result (AtFile (folder_elements folder.now) name.now
+        (data_of properties.now) (λ p.
         Passes piece_length (p ∷ []) walk.old walk.new)) }
     ensures stopped { IfErr result (λ e.
         AtFile (folder_elements folder.now) name.now (data_of properties.now) (λ p.

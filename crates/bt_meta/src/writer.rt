@@ -90,7 +90,8 @@ pub fn make(
     piece_length: u32,
     files: &[Made],
 ) -> Result<Vec<u8>, MakeError>
-    ensures made { IfOk result (λ text. IsMade name.now piece_length (map given_of files.now) text.items) }
+    ensures made { IfOk result (λ text. IsMade name.now piece_length
+        (map given_of files.now) text.items) }
     ensures apart { OnOk result (have_overlap (map given_of files.now) ≡ false) }
     ensures refused { IfErr result (IsNotMade name.now piece_length (map given_of files.now)) }
 {
@@ -148,7 +149,8 @@ pub fn make_torrent(
 fn check_files(alloc: Global, piece_length: u32, files: &[Made]) -> Result<(), MakeError>
     requires { is_lawful_piece_length piece_length ≡ true }
     ensures rooted { OnOk result (All HasRoot (map given_of files.now)) }
-    ensures checked { let refusals = with_earlier (file_refusal piece_length) [] (map given_of files.now) in
+    ensures checked { let refusals = with_earlier (file_refusal piece_length) []
+        (map given_of files.now) in
         let refusal = first_of refusals in
         MatchResult result (λ _. refusal ≡ None) (Refuses refusal) }
 {
@@ -181,9 +183,11 @@ impl Tally {
         ensures within { OnOk result (IsWithinLimits self.new) }
         ensures taken { OnOk result ((files : List Given) → IsTallyOf piece_length files self.old
             → IsTallyOf piece_length (files ++ given_of file.now ∷ []) self.new) }
-        ensures faultless { OnOk result ((files : List Given) → IsTallyOf piece_length files self.old
+        ensures faultless { OnOk result ((files : List Given)
+            → IsTallyOf piece_length files self.old
             → file_refusal piece_length files (given_of file.now) ≡ None) }
-        ensures refused { IfErr result (λ e. (files : List Given) → IsTallyOf piece_length files self.old
+        ensures refused { IfErr result (λ e. (files : List Given)
+            → IsTallyOf piece_length files self.old
             → RefusesFile piece_length files (given_of file.now) e) }
     {
         check_file(piece_length, file)?;
@@ -250,9 +254,11 @@ fn check_layer(piece_length: u32, file: &Made) -> Result<(), MakeError>
 #[tactic(auto, using(crate::proofs::Steps::check_root_steps))]
 fn check_root(lengths: &mut BTreeMap<Hash32, u64>, file: &Made) -> Result<(), MakeError>
     ensures rooted { HasRoot (given_of file.now) }
-    ensures noted { OnOk result ((files : List Given) → HasLengths lengths.old (map content_given files)
+    ensures noted { OnOk result ((files : List Given) → HasLengths lengths.old
+        (map content_given files)
         → HasLengths lengths.new (map content_given (files ++ given_of file.now ∷ []))) }
-    ensures alike { OnOk result ((files : List Given) → HasLengths lengths.old (map content_given files)
+    ensures alike { OnOk result ((files : List Given) → HasLengths lengths.old
+        (map content_given files)
         → conflict_with files (given_of file.now) ≡ false) }
     ensures refused { IfErr result (λ e. (files : List Given)
         → HasLengths lengths.old (map content_given files)
@@ -268,7 +274,8 @@ fn check_root(lengths: &mut BTreeMap<Hash32, u64>, file: &Made) -> Result<(), Ma
 
 /// The files by their paths, in ascending order.
 fn in_tree_order<'a>(alloc: Global, files: &'a [Made]) -> Result<Vec<&'a Made>, AllocError>
-    ensures { IfOk result (λ ordered. IsInTreeOrder (map given_of files.now) (map given_at ordered.items)) }
+    ensures { IfOk result (λ ordered. IsInTreeOrder (map given_of files.now)
+        (map given_at ordered.items)) }
 {
     let mut ordered = references(alloc, files)?;
     ordered.sort_by(|file, other| order_of(&file.path, &other.path))?;

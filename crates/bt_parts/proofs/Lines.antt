@@ -1,5 +1,5 @@
 -- The line of a run is read back.
-use Rattle.std.proofs.Common.{◌≡◌, ℕ, ◌^◌, ◌<◌, ◌≤◌, Bool, false, List, [], ◌∷◌, ◌++◌, append_assoc, get_or, arith, refl, sym, ap, subst, ◌∙◌, codes}
+use Rattle.std.proofs.Common.{◌≡◌, ℕ, ◌^◌, ◌<◌, ◌≤◌, false, List, [], ◌∷◌, ◌++◌, append_assoc, get_or, arith, refl, sym, ap, subst, ◌∙◌, codes}
 use Rattle.std.specs.Prelude.{◌==◌, OnOk, Result}
 use Rattle.std.specs.Fmt.{decimal}
 use Rattle.std.specs.List.{All}
@@ -14,9 +14,6 @@ use Rattle.bt_parts.specs.Line.{run_line, word_text}
 use Rattle.bt_parts.specs.declared.run.Met.{Met}
 use Rattle.bt_parts.specs.declared.run.Met.TheVariants.{Nothing, Absent, Longer, Unmeasured, Unread}
 use Rattle.bt_parts.specs.declared.run.Run.{Run}
-
-is_space : ℕ → Bool
-is_space byte = byte == 32
 
 other : (byte : ℕ) → 48 ≤ byte → (byte == 32) ≡ false
 other byte low = grind (arith, nat_tests)

@@ -21,7 +21,8 @@ impl Joined {
     fn with(self, run: Run) -> Option<Joined>
         requires { self.finding.marked ≤ self.reached }
         ensures some { IfSome result (Continues self run) }
-        ensures none { IfNone result (run.from ≡ self.reached → ¬ IsWithin self.finding.blocks run) }
+        ensures none { IfNone result (run.from ≡ self.reached
+            → ¬ IsWithin self.finding.blocks run) }
     {
         let finding = self.finding;
         if run.from != self.reached || !run.is_within(finding.blocks) {
@@ -44,7 +45,8 @@ impl Joined {
 pub fn join_runs(file: u32, blocks: u32, runs: &[Run]) -> Option<(Finding, &[Run])>
     ensures some { IfSome result (λ x. (own : List BlockRun) × (runs.now ≡ own ++ x.1.now)
         × BeginsElsewhere file x.1.now × IsJoined file blocks own x.0) }
-    ensures none { IfNone result ((own rest : List BlockRun) (finding : Found) → runs.now ≡ own ++ rest
+    ensures none { IfNone result ((own rest : List BlockRun) (finding : Found) → runs.now
+        ≡ own ++ rest
         → BeginsElsewhere file rest → ¬ IsJoined file blocks own finding) }
 {
     let mut joined = Joined {

@@ -2,7 +2,7 @@
 
 use crate::streams::{NEVER, Slow};
 use bt_check::{
-    BUFFER_LEN, Fault, Finding, PieceSize, Source, check_entry, digest_reader, load, read_text,
+    BUFFER_LEN, Fault, Finding, PieceSize, SharedTrees, Source, digest_reader, load, read_text,
 };
 use bt_disk::{DeviceFault, Disk, FaultDisk, MemoryDisk};
 use bt_meta::{Torrent, layers_are_of_trees};
@@ -127,13 +127,15 @@ fn disk_of(rt: &HostRuntime, data: &str, fails_at: u32) -> Result<FaultDisk<Memo
     Ok(disk.failing_once(fails_at as u64))
 }
 
-/// What is found of a device as the one file of a torrent.
+/// What is found of a device as the first file of a torrent, as the program finds it.
 fn found_on<D: Disk + Drop>(alloc: Global, torrent: &Torrent, disk: D) -> Result<Finding, Fault> {
     let size = PieceSize::new(torrent.piece_length()).ok_or(Fault::Words)?;
-    let entry = torrent.files().first().ok_or(Fault::Words)?;
+    let entries = torrent.files();
+    let entry = entries.first().ok_or(Fault::Words)?;
     // The layers of a torrent that was read are those of its files.
     layers_are_of_trees();
-    Ok(check_entry(alloc, disk, entry, size)?.finding)
+    let mut trees = SharedTrees::new(alloc, entries)?;
+    Ok(trees.check(alloc, Some(disk), entry, size)?)
 }
 
 fn show(rt: &HostRuntime, finding: Finding) -> io::Result<u8> {

@@ -1,5 +1,5 @@
 -- Lemmas on texts that are put together, where a format has them one after the other from the right.
-use Rattle.std.proofs.Common.{◌≡◌, ℕ, List, ◌++◌, codes, append_assoc}
+use Rattle.std.proofs.Common.{◌≡◌, ℕ, List, ◌++◌, append_assoc}
 
 pub put_three : (old first second last a b c : List ℕ) → first ≡ old ++ a → second ≡ first ++ b → last ≡ second ++ c → last ≡ old ++ (a ++ b ++ c)
 put_three old first second last a b c one two three = rw (three, two, one) (simp append_assoc)

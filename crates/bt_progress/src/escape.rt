@@ -45,7 +45,8 @@ pub fn write_escaped_lines<W: io::Write>(writer: &mut W, text: &str) -> io::Resu
 /// Writes a character of a text of several lines as it is told.
 #[tactic(auto, unfolding(crate::specs::Escape::char_of_lines, crate::specs::Escape::escaped_char))]
 fn write_of_lines<W: io::Write>(writer: &mut W, letter: char) -> io::Result<()>
-    ensures { OnOk result (Appends (W.contents writer.old) (W.contents writer.new) (char_of_lines letter)) }
+    ensures { OnOk result (Appends (W.contents writer.old) (W.contents writer.new)
+        (char_of_lines letter)) }
 {
     if letter != '\n' && is_escaped(letter) {
         write!(writer, "\\u{{{:x}}}", letter as u32)

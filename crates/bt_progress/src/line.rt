@@ -23,7 +23,8 @@ pub fn progress_line(
     peers: Option<usize>,
     millis: u64,
 ) -> Result<String, AllocError>
-    ensures { IfOk result (λ line. string_bytes line ≡ line_text meter.done meter.all peers millis) }
+    ensures { IfOk result (λ line. string_bytes line
+        ≡ line_text meter.done meter.all peers millis) }
 {
     let mut line = String::new(alloc);
     push_share(&mut line, meter)?;
@@ -43,7 +44,8 @@ pub fn size_text(alloc: Global, bytes: u64) -> Result<String, AllocError>
 
 /// Adds how much is done.
 fn push_share(line: &mut String, meter: Meter) -> Result<(), AllocError>
-    ensures { OnOk result (string_bytes line.new ≡ string_bytes line.old ++ share_text meter.done meter.all) }
+    ensures { OnOk result (string_bytes line.new ≡ string_bytes line.old
+        ++ share_text meter.done meter.all) }
 {
     push_size(line, meter.done as u128)?;
     if meter.all == 0 {
@@ -123,7 +125,8 @@ fn push_size(text: &mut String, bytes: u128) -> Result<(), AllocError>
 fn push_tenths(text: &mut String, bytes: u128, unit: u128, name: &str) -> Result<(), AllocError>
     requires some { 0 < unit }
     requires short { unit ≤ tebibyte }
-    ensures { OnOk result (string_bytes text.new ≡ string_bytes text.old ++ tenths_text bytes unit name.now) }
+    ensures { OnOk result (string_bytes text.new ≡ string_bytes text.old
+        ++ tenths_text bytes unit name.now) }
 {
     let whole = bytes / unit;
     let tenths = bytes % unit * 10 / unit;

@@ -223,14 +223,6 @@ size_is anchor (inr e) = inr (ap (λ a. 2 ^ a) e)
 pub small_anchor : (anchor : ℕ) → 0 < anchor → anchor ≤ 2 → (anchor ≡ 1) ⊎ (anchor ≡ 2)
 small_anchor anchor above low = elim (cases_lt anchor 2) [ inl lt ↦ inl (omega (arith, above, lt)) | inr ge ↦ inr (omega (arith, low, ge)) ]
 
-pub whole_down : (size count : ℕ) → (size ≡ 2) ⊎ (size ≡ 4) → (count - count % size) % size ≡ 0
-whole_down size count (inl e) = subst (λ s. (count - count % s) % s ≡ 0) (sym e) (omega arith)
-whole_down size count (inr e) = subst (λ s. (count - count % s) % s ≡ 0) (sym e) (omega arith)
-
-pub whole_eight : (size : ℕ) → (size ≡ 2) ⊎ (size ≡ 4) → 8 % size ≡ 0
-whole_eight size (inl e) = subst (λ s. 8 % s ≡ 0) (sym e) refl
-whole_eight size (inr e) = subst (λ s. 8 % s ≡ 0) (sym e) refl
-
 whole_sum : (size a b : ℕ) → (size ≡ 2) ⊎ (size ≡ 4) → a % size ≡ 0 → b % size ≡ 0 → (a + b) % size ≡ 0
 whole_sum size a b (inl e) = subst (λ s. a % s ≡ 0 → b % s ≡ 0 → (a + b) % s ≡ 0) (sym e) (λ p q. omega (arith, p, q))
 whole_sum size a b (inr e) = subst (λ s. a % s ≡ 0 → b % s ≡ 0 → (a + b) % s ≡ 0) (sym e) (λ p q. omega (arith, p, q))
@@ -413,12 +405,6 @@ module _ {D : Type 0} (dig : List ℕ → List ℕ) (k : Facts) (from anchor cou
     way_stops = λ counts buffer are.
         turn_stops dig old.file_length k mid from count old.states now.states blocks_found counts buffer before anchor first m are way.low group next_group.begins
         (way.turn counts buffer are) way.high
-
-  pub way_ended : (mid : Facts) (total : AdoptedGroups) (now : StoreView D) → IsUnderWay dig k from anchor count blocks_found old mid total now → from + count ≤ total.next
-      → AdoptsBatch dig old.file_length k from count old.states blocks_found total mid now.states
-  way_ended mid total now way end counts buffer are =
-      let all : total.next - from ≡ count = omega (arith, end, way.high) in
-      subst (λ c. AdoptsInTurn dig k from old.states (batch_reads from counts buffer c) total mid now.states) all (way.turn counts buffer are)
 
 -- ---- a batch as a whole
 

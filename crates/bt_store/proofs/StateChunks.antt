@@ -67,27 +67,11 @@ padded_at count states i lt = first_at count (at states) (at states) i Missing l
 pub padded_none : (count : ℕ) (states : List BlockState) → states ≡ [] → padded count states ≡ replicate count Missing
 padded_none count states none = first_missing count (at states) (λ i lt. ap (λ l. get_or l i Missing) none)
 
-pub written_at : (states : List BlockState) (k : ℕ) (s : BlockState) → k < length states → IsWritten (at states) k s (at (set states k s))
-written_at states k s lt = is_written (at states) (at (set states k s)) k s (get_or-set_same states k s Missing lt)
-    (λ i ne. get_or-set_other states k i s Missing ne)
-
 pub padded_set : (count : ℕ) (states filled : List BlockState) (k : ℕ) (s : BlockState) → k < count → k < length filled
     → ((i : ℕ) → at filled i ≡ at states i) → padded count (set filled k s) ≡ set (padded count states) k s
 padded_set count states filled k s inside lt same =
     first_set count (at states) (at (set filled k s)) k s inside (is_written (at states) (at (set filled k s)) k s
     (get_or-set_same filled k s Missing lt) (λ i ne. get_or-set_other filled k i s Missing ne ∙ same i))
-
--- states are filled up
-pub filled_same : (old new : List BlockState) (n : ℕ) → length new ≡ n → length old ≤ n
-    → ((k : ℕ) (d : BlockState) → k < n → k < length old → get_or new k d ≡ get_or old k d)
-    → ((k : ℕ) (d : BlockState) → length old ≤ k → k < n → get_or new k d ≡ Missing) → (i : ℕ) → at new i ≡ at old i
-filled_same old new n size more kept filled i = elim (cases_lt i (length old)) [
-  | inl lt ↦ kept i Missing (omega arith) lt
-  | inr ge ↦ elim (cases_lt i n) [
-    | inl lt ↦ filled i Missing ge lt ∙ sym (get_or_past old i Missing ge)
-    | inr past ↦ get_or_past new i Missing (omega arith) ∙ sym (get_or_past old i Missing ge)
-  ]
-]
 
 -- ---- the chunks of a file
 module _ (chunks : List (List BlockState)) where
@@ -163,9 +147,6 @@ chunk_written chunks count block s given now places inside read wrote =
 
 pub states_length : (count : ℕ) (chunks : List (List BlockState)) → length (states_of count chunks) ≡ count
 states_length count chunks = first_length count (state_in chunks) (state_in chunks)
-
-pub states_at : (count : ℕ) (chunks : List (List BlockState)) (i : ℕ) → i < count → get_or (states_of count chunks) i Missing ≡ state_in chunks i
-states_at count chunks i lt = first_at count (state_in chunks) (state_in chunks) i Missing lt
 
 pub states_missing : (count : ℕ) (chunks : List (List BlockState)) → ((i : ℕ) → state_in chunks i ≡ Missing) → states_of count chunks ≡ replicate count Missing
 states_missing count chunks none = first_missing count (state_in chunks) (λ i lt. none i)

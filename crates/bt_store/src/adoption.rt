@@ -131,8 +131,10 @@ impl<D: Disk + Drop, H: NodeHash> FileStore<D, H> {
         requires geometry { tree.old.file_length ≡ self.old.file_length }
         requires inside { group.first + group.count ≤ block_count self.old.file_length }
         requires limit { block_count self.old.file_length ≤ max_block_count }
-        ensures ok { IfOk result (λ adopted. AdoptsGroup H.digest self.old.file_length tree.old anchor
-            group.first group.count self.old.states leaves.items reads adopted tree.new self.new.states) }
+        ensures ok { IfOk result
+            (λ adopted. AdoptsGroup H.digest self.old.file_length tree.old anchor
+            group.first group.count self.old.states leaves.items reads adopted tree.new
+            self.new.states) }
         ensures next { IfOk result (λ adopted. adopted.next ≡ group.first + group.count) }
         ensures marked { IfOk result (λ adopted. adopted.marked ≤ group.count) }
         ensures faults { IfOk result (λ adopted. adopted.faults ≡ reads.faults) }

@@ -46,7 +46,8 @@ pub(crate) fn read_batch<D: Disk>(
     ensures calls { HasCalls D.conduct
         disk.old (map (call_of geometry) (batch_reads first result buffer.new count)) disk.new }
     ensures within { (j : ℕ) → j < count
-        → IfSome (slice_index_or result j None) (λ given. given ≤ block_length geometry (first + j)) }
+        → IfSome (slice_index_or result j None) (λ given. given ≤ block_length geometry
+        (first + j)) }
 {
     let mut lengths = [None; BATCH_BLOCKS];
     for j in 0..count {
@@ -95,7 +96,8 @@ fn digest_together<H: NodeHash>(
     buffer: &[u8],
 ) -> [Option<Hash32>; BATCH_BLOCKS]
     ensures { (j : ℕ) → j < 8
-        → IfSome (slice_index_or result j None) (λ digest. digest ≡ H.digest (block_at buffer.now j)) }
+        → IfSome (slice_index_or result j None) (λ digest. digest ≡ H.digest
+        (block_at buffer.now j)) }
 {
     let mut together = [None; BATCH_BLOCKS];
     if buffer.len() < BATCH_LEN || full_count(lengths) < LEAST_TOGETHER {

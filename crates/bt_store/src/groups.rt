@@ -99,7 +99,8 @@ pub(crate) fn padding<H: NodeHash>(
     layer: u32,
 ) -> Result<Vec<Hash32>, AllocError>
     requires { layer ≤ max_height }
-    ensures { IfOk result (λ leaves. leaves.items ≡ replicate (2 ^ layer) (padding_digest H.digest 0)) }
+    ensures { IfOk result (λ leaves. leaves.items ≡ replicate (2 ^ layer)
+        (padding_digest H.digest 0)) }
 {
     let leaf = pad(hash, 0);
     let count = 1u32 << layer;

@@ -263,7 +263,8 @@ impl<D: Disk + Drop, H: NodeHash> FileStore<D, H> {
         requires inside { end ≤ block_count self.old.file_length }
         ensures { (reads : List BlockRead)
             × IsJudged D.conduct H.digest tree.now (forgives review)
-            (chosen_blocks H.digest tree.now review self.old.states from (end - from)) self.old reads self.new
+            (chosen_blocks H.digest tree.now review self.old.states from (end - from)) self.old
+            reads self.new
             × IsTallyOf H.digest tree.now reads result }
     {
         let candidates = match review {
@@ -292,7 +293,8 @@ impl<D: Disk + Drop, H: NodeHash> FileStore<D, H> {
         requires room { full_block_length ≤ length buffer.old }
         ensures { (reads : List BlockRead)
             × IsJudged D.conduct H.digest tree.now (forgives review)
-            (chosen_blocks H.digest tree.now review self.old.states from (end - from)) self.old reads self.new
+            (chosen_blocks H.digest tree.now review self.old.states from (end - from)) self.old
+            reads self.new
             × IsTallyOf H.digest tree.now reads result }
     {
         let most = blocks_in(buffer);
@@ -327,7 +329,8 @@ impl<D: Disk + Drop, H: NodeHash> FileStore<D, H> {
         ensures inside { from + result ≤ end }
         ensures chosen { (j : ℕ) → j < result
             → is_chosen H.digest tree.now review self.now.states (from + j) ≡ true }
-        ensures none { result ≡ 0 → is_chosen H.digest tree.now review self.now.states from ≡ false }
+        ensures none { result ≡ 0 → is_chosen H.digest tree.now review self.now.states
+            from ≡ false }
     {
         for count in 0..most {
             if count >= end - from || !self.is_chosen(tree, review, from + count) {

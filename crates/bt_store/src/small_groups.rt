@@ -198,9 +198,11 @@ impl<D: Disk + Drop, H: NodeHash> FileStore<D, H> {
         requires geometry { tree.old.file_length ≡ self.old.file_length }
         requires batch { IsBatch tree.old from batch.anchor batch.count }
         requires limit { blocks_of tree.old ≤ max_block_count }
-        requires read { ReadSomehow H.digest self.old.file_length from blocks_found.now batch.count }
+        requires read { ReadSomehow H.digest self.old.file_length from blocks_found.now
+            batch.count }
         ensures ok { IfOk result (λ adopted. AdoptsBatch H.digest self.old.file_length
-            tree.old from batch.count self.old.states blocks_found.now adopted tree.new self.new.states) }
+            tree.old from batch.count self.old.states blocks_found.now adopted tree.new
+            self.new.states) }
         ensures stop { IfErr result (λ _. StopsBatch H.digest self.old.file_length
             tree.old from batch.count self.old.states blocks_found.now tree.new self.new.states) }
         ensures next { IfOk result (λ adopted. adopted.next ≡ from + batch.count) }
@@ -238,8 +240,10 @@ impl<D: Disk + Drop, H: NodeHash> FileStore<D, H> {
         requires layer { anchor ≤ max_height }
         requires fits { group.count ≤ 2 ^ anchor }
         requires found { group.count ≤ length blocks_found.now }
-        ensures ok { IfOk result (λ adopted. AdoptsFound H.digest self.old.file_length tree.old anchor
-            group.first group.count self.old.states blocks_found.now adopted tree.new self.new.states) }
+        ensures ok { IfOk result
+            (λ adopted. AdoptsFound H.digest self.old.file_length tree.old anchor
+            group.first group.count self.old.states blocks_found.now adopted tree.new
+            self.new.states) }
         ensures next { IfOk result (λ adopted. adopted.next ≡ group.first + group.count) }
         ensures marked { IfOk result (λ adopted. adopted.marked ≤ group.count) }
         ensures faults { IfOk result (λ adopted. adopted.faults ≤ group.count) }

@@ -24,7 +24,8 @@ impl Model for StateChunk {
 
     ghost view = { λ c. padded c.count c.states.items };
 
-    ghost invariant = { λ c. (length c.states.items ≤ c.count) × (c.count ≤ vec_capacity c.states) };
+    ghost invariant = { λ c. (length c.states.items ≤ c.count)
+        × (c.count ≤ vec_capacity c.states) };
 }
 
 impl StateChunk {

@@ -7,10 +7,8 @@ use Rattle.std.specs.Cmp.Lexicographic.{bytes_decides}
 use Rattle.std.specs.List.{AllZip}
 use Rattle.std.specs.Str.{bytes_eq}
 use Rattle.std.specs.Str.Parse.{digits_value}
-use Rattle.std.specs.Box.{box_value}
-use Rattle.clap.specs.Words.{App, FailsBy, HasKind, HasMatchesOf, IsAmong, Row, Text, all_of, fault_of, kind_of, first_of, first_value, found_of, is_simple, is_simple_and_free, matched_of, raw_values, rows_of, subcommand_name_of, subcommand_of, subcommand_rows, subcommand_rows_of}
+use Rattle.clap.specs.Words.{App, FailsBy, HasKind, HasMatchesOf, IsAmong, Row, Text, all_of, fault_of, kind_of, first_of, first_value, is_simple, is_simple_and_free, matched_of, raw_values, rows_of, subcommand_of, subcommand_rows_of}
 use Rattle.clap.specs.declared.parser.matches.ArgMatches.{ArgMatches}
-use Rattle.clap.specs.declared.parser.matches.ArgMatches.TheViews.{out-ArgMatches, out-SubCommand}
 use Rattle.clap.specs.declared.parser.matches.Found.{Found}
 use Rattle.clap.specs.declared.error.Error.{Error}
 use Rattle.clap.specs.declared.error.kind.ErrorKind.{ErrorKind}
@@ -178,21 +176,6 @@ log_beside rows read_only path is given = record {
 
 -- ---- tasks
 
-both_parts : {X : Type 0} (h : X → Text × List Row) (o : Option X) (name : Text) (rows : List Row) → option_map (λ x. (h x).0) o ≡ Some name
-    → option_map (λ (p : Text × List Row). p.1) (option_map h o) ≡ Some rows → option_map h o ≡ Some (name, rows)
-both_parts h None name rows a b = cc
-both_parts h (Some x) name rows a b =
-    let first : (h x).0 ≡ name = cc in
-    let second : (h x).1 ≡ rows = cc in
-    ap (λ n. Some (n, (h x).1)) first ∙ ap (λ l. Some (name, l)) second
-
--- the name and the rows of the subcommand that was met
-pub met_is : (m : ArgMatches) (name : Text) (rows : List Row) → subcommand_name_of m ≡ Some name
-    → option_map (λ p. p.1) (subcommand_rows (out-ArgMatches m).subcommand) ≡ Some rows → subcommand_rows_of m ≡ Some (name, rows)
-met_is m name rows named with_rows =
-    both_parts (λ b. ((out-SubCommand (box_value b)).name.now, rows_of (found_of (out-SubCommand (box_value b)).matches)))
-    (out-ArgMatches m).subcommand name rows named with_rows
-
 -- texts of which a comparison says so differ
 pub differ : (a b : Text) → bytes_eq a b ≡ false → ¬ (a ≡ b)
 differ a b unequal same = let equal : bytes_eq a b ≡ true = (bytes_decides a b).1 same in cc
@@ -251,24 +234,6 @@ no_fetch_peers rows words given none = no_fetch rows (λ task is.
     let both : Some is.words ≡ Some words = sym is.given ∙ given in
     let same : is.words ≡ words = cc in
     none task.peers.items (subst (λ ws. AllZip IsPeerWord ws task.peers.items) same is.peers))
-
-pub no_command : (name : Text) (rows : List Row) → ¬ (name ≡ codes "make") → ¬ (name ≡ codes "show") → ¬ (name ≡ codes "check") → ¬ (name ≡ codes "seed")
-    → ¬ (name ≡ codes "fetch") → ¬ (name ≡ codes "replay") → (task : Task) → ¬ AsksFor name rows task
-no_command name rows make show check seed fetch replay (Make request) a = make a.0
-no_command name rows make show check seed fetch replay (Show task) a = show a.0
-no_command name rows make show check seed fetch replay (Check task) a = check a.0
-no_command name rows make show check seed fetch replay (Seed task) a = seed a.0
-no_command name rows make show check seed fetch replay (Fetch task) a = fetch a.0
-no_command name rows make show check seed fetch replay Replay a = replay a
-
--- what the subcommand asks for, the words do
-pub met_some : (o : Option (Text × List Row)) (name : Text) (rows : List Row) (r : Result Task Refusal) → o ≡ Some (name, rows) → IfOk r (AsksFor name rows)
-    → IfOk r (IsTaskIn o)
-met_some o name rows r met h = subst (λ o. IfOk r (IsTaskIn o)) (sym met) h
-
-pub met_refused : (o : Option (Text × List Row)) (name : Text) (rows : List Row) (r : Result Task Refusal) → o ≡ Some (name, rows)
-    → IfErr r (IsRefusalFor ((task : Task) → ¬ AsksFor name rows task)) → IfErr r (IsRefusalFor ((task : Task) → ¬ IsTaskIn o task))
-met_refused o name rows r met h = subst (λ o. IfErr r (IsRefusalFor ((task : Task) → ¬ IsTaskIn o task))) (sym met) h
 
 -- ---- the words
 

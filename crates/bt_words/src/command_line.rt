@@ -182,7 +182,8 @@ const PEER_WANTED: &str =
 /// text.
 pub fn parse<'a>(alloc: Global, words: &'a [String]) -> Result<Task<'a>, Error>
     ensures task { IfOk result (IsTaskOf (map string_bytes words.now)) }
-    ensures error { IfErr result (λ error. IsNoTaskOf (map string_bytes words.now) (kind_of error)) }
+    ensures error { IfErr result (λ error. IsNoTaskOf (map string_bytes words.now)
+        (kind_of error)) }
 {
     let mut command = commands(alloc)?;
     task_by(alloc, &mut command, words)
@@ -196,7 +197,8 @@ fn task_by<'a>(
 ) -> Result<Task<'a>, Error>
     requires { app_of command.old ≡ program_app }
     ensures task { IfOk result (IsTaskOf (map string_bytes words.now)) }
-    ensures error { IfErr result (λ error. IsNoTaskOf (map string_bytes words.now) (kind_of error)) }
+    ensures error { IfErr result (λ error. IsNoTaskOf (map string_bytes words.now)
+        (kind_of error)) }
 {
     let matches = matches_of(alloc, command, words)?;
     match task_of(alloc, &matches) {
@@ -213,7 +215,8 @@ fn matches_of<'a>(
 ) -> Result<ArgMatches<'a>, Error>
     requires { app_of command.old ≡ program_app }
     ensures matches { IfOk result (AreWordsOf (map string_bytes words.now)) }
-    ensures error { IfErr result (λ error. IsNoTaskOf (map string_bytes words.now) (kind_of error)) }
+    ensures error { IfErr result (λ error. IsNoTaskOf (map string_bytes words.now)
+        (kind_of error)) }
 {
     match read_words(command, words) {
         Ok(matches) => Ok(matches),
@@ -225,7 +228,8 @@ fn matches_of<'a>(
 fn read_words<'a>(command: &mut Command<'a>, words: &'a [String]) -> Result<ArgMatches<'a>, Error>
     requires { app_of command.old ≡ program_app }
     ensures matches { IfOk result (AreWordsOf (map string_bytes words.now)) }
-    ensures error { IfErr result (λ error. IsNoTaskOf (map string_bytes words.now) (kind_of error)) }
+    ensures error { IfErr result (λ error. IsNoTaskOf (map string_bytes words.now)
+        (kind_of error)) }
 {
     command.try_get_matches_from_mut(words)
 }
@@ -626,7 +630,8 @@ fn is_given(matches: &ArgMatches<'_>, id: &str) -> bool
 
 /// The peers that words name, in turn.
 fn peers_of<'a>(alloc: Global, words: &[&'a str]) -> Result<Vec<Peer<'a>>, Refusal<'a>>
-    ensures peers { IfOk result (λ peers. AllZip IsPeerWord (map (λ word. word.now) words.now) peers.items) }
+    ensures peers { IfOk result (λ peers. AllZip IsPeerWord (map (λ word. word.now) words.now)
+        peers.items) }
     ensures refused { IfErr result (IsRefusalFor
         ((peers : List Peer) → ¬ AllZip IsPeerWord (map (λ word. word.now) words.now) peers)) }
 {
@@ -659,7 +664,8 @@ fn has_flag(matches: &ArgMatches<'_>, id: &str) -> bool
 
 /// The word of this id.
 fn word_of<'a>(matches: &ArgMatches<'a>, id: &str) -> Result<&'a str, Refusal<'a>>
-    ensures word { IfOk result (λ word. first_of id.now (rows_of (found_of matches.now)) ≡ Some word.now) }
+    ensures word { IfOk result (λ word. first_of id.now (rows_of (found_of matches.now))
+        ≡ Some word.now) }
     ensures refused { IfErr result (IsRefusalFor
         ((text : List ℕ) → ¬ (first_of id.now (rows_of (found_of matches.now)) ≡ Some text))) }
 {
@@ -674,7 +680,8 @@ fn words_of<'b, 'a>(matches: &'b ArgMatches<'a>, id: &str) -> Result<&'b [&'a st
     ensures words { IfOk result (λ words. all_of id.now (rows_of (found_of matches.now))
         ≡ Some (map (λ word. word.now) words.now)) }
     ensures refused { IfErr result (IsRefusalFor
-        ((texts : List (List ℕ)) → ¬ (all_of id.now (rows_of (found_of matches.now)) ≡ Some texts))) }
+        ((texts : List (List ℕ)) → ¬ (all_of id.now (rows_of (found_of matches.now))
+        ≡ Some texts))) }
 {
     match matches.get_strs(id) {
         Some(words) => Ok(words),

@@ -1,7 +1,7 @@
 use Rattle.std.proofs.Common.{sym, subst}
 use Rattle.bt_jobs.specs.TreesSteps.{IsMeasured}
-use Rattle.bt_jobs.proofs.PartTrees.{not_long, too_long, unmeasured}
-use Rattle.bt_parts.specs.declared.run.Met.TheVariants.{Longer, Nothing, Unmeasured}
+use Rattle.bt_jobs.proofs.PartTrees.{too_long, unmeasured}
+use Rattle.bt_parts.specs.declared.run.Met.TheVariants.{Longer, Unmeasured}
 use Rattle.bt_jobs.proofs.trees.measured.Goals as goal
 
 pub returns-in-Some : goal.returns-in-Some

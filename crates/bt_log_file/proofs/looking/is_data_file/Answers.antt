@@ -1,6 +1,3 @@
-use Rattle.std.proofs.Common.{Bool, List, Result, Ok, Err, IfOk, subst}
-use Rattle.bt_meta.specs.Files.{File}
-use Rattle.bt_log_file.specs.Looking.{HasFileAt, HasNoFileAt, IsFileAt, IsNoneAt}
 use Rattle.bt_log_file.proofs.Refusals.{by_what_is_told}
 use Rattle.bt_log_file.proofs.looking.is_data_file.Goals as goal
 
