@@ -1,11 +1,10 @@
 -- Devices of which eight blocks are read ahead.
-use Rattle.std.proofs.Common.{◌≡◌, ℕ, List, [], ◌∷◌, arith}
-use Rattle.std.proofs.lemmas.List.Elements.{All-nil, All-cons, All-weaker}
+use Rattle.std.proofs.Common.{◌≡◌, ℕ}
+use Rattle.std.proofs.lemmas.List.Elements.{All-weaker}
 use Rattle.bt_disk.specs.Conduct.{Conduct}
 use Rattle.bt_disk.specs.Calls.{Call, length_given, length_fault, bytes_given, read_fault, bytes_written, write_fault, length_set, resize_fault, sync_made, sync_fault, IsRead}
-use Rattle.bt_disk.proofs.CallLists.{has_none}
 use Rattle.bt_disk.proofs.Histories.{reads_change_nothing}
-use Rattle.bt_devices.specs.Cache.{IsRunRead, TakesRun}
+use Rattle.bt_devices.specs.Cache.{IsRunRead}
 use Rattle.bt_devices.specs.Disk.{MayReadRun}
 
 -- the read of a run is a read
@@ -27,19 +26,3 @@ module _ {D : Type 0} (conduct : Conduct D) (old : D) (at : ℕ) where
   run_keeps new read is_honest =
       reads_change_nothing (conduct.history old) (conduct.history new) read.calls
       (All-weaker (IsRunRead at) IsRead (run_is_read at) read.calls read.run_read) (read.made.answered is_honest)
-
-  pub no_run : MayReadRun conduct old at old
-  no_run = record {
-    calls = [];
-    once = omega arith;
-    run_read = All-nil (IsRunRead at);
-    made = has_none conduct old;
-  }
-
-  pub one_run : (blocks : List (List ℕ)) (new : D) → TakesRun conduct old at blocks new → MayReadRun conduct old at new
-  one_run blocks new takes = record {
-    calls = takes.call ∷ [];
-    once = omega arith;
-    run_read = All-cons (IsRunRead at) takes.call [] takes.run_read (All-nil (IsRunRead at));
-    made = takes.made;
-  }

@@ -136,7 +136,8 @@ impl<'a, D: Disk> Disk for SealedDisk<'a, D> {
     fn write_at(&mut self, at: u64, bytes: &[u8]) -> Result<(), DeviceFault>
         // by its seal
         ensures closed { self.old.is_sealed ≡ true → self.new.is_sealed ≡ true }
-        ensures refused { self.new.is_sealed ≡ true → IsErr result × (self.new ≡ after_refusal self.old) }
+        ensures refused { self.new.is_sealed ≡ true → IsErr result
+            × (self.new ≡ after_refusal self.old) }
         ensures passes { self.new.is_sealed ≡ false
             → PassesOn D.conduct self.old (write_call at bytes.now result) self.new }
 
@@ -158,7 +159,8 @@ impl<'a, D: Disk> Disk for SealedDisk<'a, D> {
     fn set_len(&mut self, len: u64) -> Result<(), DeviceFault>
         // by its seal
         ensures closed { self.old.is_sealed ≡ true → self.new.is_sealed ≡ true }
-        ensures refused { self.new.is_sealed ≡ true → IsErr result × (self.new ≡ after_refusal self.old) }
+        ensures refused { self.new.is_sealed ≡ true → IsErr result
+            × (self.new ≡ after_refusal self.old) }
         ensures passes { self.new.is_sealed ≡ false
             → PassesOn D.conduct self.old (set_len_call len result) self.new }
 

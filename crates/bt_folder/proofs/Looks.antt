@@ -9,7 +9,7 @@ use Rattle.std.proofs.lemmas.List.{length-map, length_push, take-map, take_more}
 use Rattle.std.proofs.lemmas.Option.{get_or_from_slice_get, none-some, same_Some, slice_get-get_or, slice_get_past, slice_get_within}
 use Rattle.bt_folder.specs.CaseFolders.{IsOwnIn, name_in}
 use Rattle.bt_folder.specs.CaseNames.{with_name}
-use Rattle.bt_folder.specs.CasePaths.{AreShared, GoesTo, HasNameOfAnother, HasNoPath, IsOwnPath, folder_on, last_path, place_of, texts}
+use Rattle.bt_folder.specs.CasePaths.{AreShared, GoesTo, HasNameOfAnother, IsOwnPath, folder_on, last_path, place_of, texts}
 use Rattle.bt_folder.specs.CasePathsSteps.{AddsName, KeepsAbove}
 use Rattle.bt_folder.specs.Lookup.{Lists}
 use Rattle.bt_folder.specs.declared.case_folder.CaseFolder.{CaseFolder}
@@ -232,9 +232,3 @@ another lists dir old new path is =
       held = beside.held;
       lacks = sym beside.both;
     }))
-
--- Of the first path no name is another's.
-pub none_yet : (old new : CasePaths) (path : List (List ℕ)) → HasNoPath old → HasNameOfAnother old new path → ⊥
-none_yet old new path none is =
-    none-some is.twin
-    (subst (λ (folders : List CaseFolder). name_in (slice_get folders is.depth) (str_to_uppercase is.name) ≡ Some is.twin) none is.alike)

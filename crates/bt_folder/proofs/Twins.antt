@@ -1,7 +1,6 @@
 -- Names of the folders on a path that are one with another but for case.
 use Rattle.std.proofs.Common.{◌≡◌, ℕ, zero, suc, ◌+◌, ◌-◌, ◌<◌, ◌≤◌, ◌≢◌, Bool, true, false, List, [], ◌∷◌, ◌++◌, length, map, take, drop, get_or, Some, None, String, Global, sym, ap, ◌∙◌, string_bytes, bytes_eq, arith, length-drop}
 use Rattle.std.specs.Prelude.{slice_get}
-use Rattle.std.specs.Bool.{OnFalse}
 use Rattle.std.specs.Borrow.{Bor}
 use Rattle.std.specs.Option.{option_map}
 use Rattle.std.proofs.lemmas.Bool.{false≢true}
@@ -9,11 +8,6 @@ use Rattle.std.proofs.lemmas.List.{get_or-drop, get_or-take, length-map, length-
 use Rattle.std.proofs.lemmas.Option.{none-some, slice_get-get_or, slice_get-map, slice_get_past, same_Some}
 use Rattle.std.proofs.lemmas.Slice.Eq.{bytes_eq-Decides}
 use Rattle.bt_folder.specs.CasePaths.{texts}
-
--- what is known where an answer is no
-pub on_no : (b : Bool) (P : Type 0) → b ≡ false → OnFalse b P → P
-on_no true P is_no holds = absurd (false≢true (sym is_no))
-on_no false P is_no holds = holds
 
 -- ---- elements of a path
 

@@ -60,7 +60,8 @@ impl CasePaths {
     fn shared_len(&self, elements: &[&str]) -> usize
         ensures in_path { result ≤ vec_len self.now.path }
         ensures in_elements { result ≤ length elements.now }
-        ensures same { map string_bytes (take result self.now.path.items) ≡ texts (take result elements.now) }
+        ensures same { map string_bytes (take result self.now.path.items) ≡ texts
+            (take result elements.now) }
         ensures apart { result < length elements.now
             → slice_get (last_path self.now) result ≢ slice_get (texts elements.now) result }
     {

@@ -27,7 +27,8 @@ impl KnownFiles {
 
     /// Adds a file, and says whether it is a further one: no, where it was there already.
     pub fn insert(&mut self, file: FileIdentity) -> Result<bool, AllocError>
-        ensures is_further { IfOk result (λ is_further. IsTrue is_further ↔ ¬ IsKnown self.old file) }
+        ensures is_further { IfOk result (λ is_further. IsTrue is_further
+            ↔ ¬ IsKnown self.old file) }
         ensures known { IfOk result (λ is_further. OnFalse is_further (IsKnown self.old file)) }
         ensures added { OnOk result ((other : FileIdentity)
             → IsKnown self.new other ↔ (IsKnown self.old other ⊎ (other ≡ file))) }

@@ -1,5 +1,5 @@
 -- Lines that run one after the other.
-use Rattle.std.proofs.Common.{[], ◌≡◌, ℕ, ◌+◌, ◌<◌, ◌^◌, List, ◌∷◌, ◌++◌, length, Option, refl, sym, ap, subst, ◌∙◌, append_assoc, append-nil, length-append, arith}
+use Rattle.std.proofs.Common.{[], ◌≡◌, ℕ, ◌+◌, List, ◌∷◌, ◌++◌, length, Option, refl, sym, ap, ◌∙◌, append_assoc, length-append, arith}
 use Rattle.std.specs.Borrow.{Bor}
 use Rattle.std.specs.Io.KnownBytes.{Keeps}
 use Rattle.std.proofs.KnownBytes.{Appends-nil, Appends-trans, Appends-kept}
@@ -54,27 +54,6 @@ at_more conduct dig handshake first mid now start number next all text line rest
     written = Appends-trans old new newer at.ran.text one.said at.ran.written one.written;
   };
 }
-
-pub at_end : {D : Type 0} (conduct : Conduct D)
-    (dig : List ℕ → List ℕ) (handshake : List ℕ) (first now : EngineView D) (start number : ℕ)
-    (all : List (List ℕ)) (rest : Option (Bor (List ℕ))) (old new : Option (List ℕ))
-    → IsAt conduct dig handshake first start number all rest old new now → lines_in rest ≡ []
-    → HasRun conduct dig handshake first all old new now
-at_end conduct dig handshake first now start number all rest old new at none =
-    subst (λ lines. HasRun conduct dig handshake first lines old new now)
-    (sym (at.parted ∙ ap (λ lines. at.done ++ lines) none ∙ append-nil at.done)) at.ran
-
--- as long as it runs, the next number fits
-pub next_fits : {D : Type 0} (conduct : Conduct D)
-    (dig : List ℕ → List ℕ) (handshake : List ℕ) (first now : EngineView D) (start number : ℕ)
-    (all : List (List ℕ)) (text line : List ℕ) (rest more : Option (Bor (List ℕ))) (old new : Option (List ℕ))
-    → IsAt conduct dig handshake first start number all rest old new now
-    → lines_in rest ≡ parts_of 10 text → parts_of 10 text ≡ line ∷ lines_in more → start + length all < 2 ^ 64
-    → number + 1 < 2 ^ 64
-next_fits conduct dig handshake first now start number all text line rest more old new at here cut few =
-    let whole = ap length (at.parted ∙ ap (λ lines. at.done ++ lines) (here ∙ cut)) in
-    let len = length-append at.done (line ∷ lines_in more) in
-    grind (arith, few, at.counted, whole, len)
 
 -- where a line is the last, the lines end there
 pub kept_run : {D : Type 0} (conduct : Conduct D) (dig : List ℕ → List ℕ)

@@ -16,7 +16,8 @@ use std::fmt::Write;
 /// Adds the lines of an answer. Its frames can be written. Errors: out of memory, and then nothing is added.
 pub fn push_answer(alloc: Global, text: &mut String, answer: &Answer) -> Result<(), AllocError>
     requires { AllFit (sent_by answer.now) }
-    ensures added { OnOk result (string_bytes text.new ≡ string_bytes text.old ++ answer_text answer.now) }
+    ensures added { OnOk result (string_bytes text.new ≡ string_bytes text.old
+        ++ answer_text answer.now) }
     ensures kept { OnErr result (string_bytes text.new ≡ string_bytes text.old) }
 {
     let lines = text_of(alloc, answer)?;
@@ -37,7 +38,8 @@ pub(crate) fn text_of(alloc: Global, answer: &Answer) -> Result<String, AllocErr
 /// all functions below.
 fn push_lines(alloc: Global, text: &mut String, answer: &Answer) -> Result<(), AllocError>
     requires { AllFit (sent_by answer.now) }
-    ensures { OnOk result (string_bytes text.new ≡ string_bytes text.old ++ answer_text answer.now) }
+    ensures { OnOk result (string_bytes text.new ≡ string_bytes text.old
+        ++ answer_text answer.now) }
 {
     match answer {
         Answer::Connected(joined) => push_joined(alloc, text, joined),
@@ -75,7 +77,8 @@ fn push_step(
     step: &Result<Option<Output>, EngineError>,
 ) -> Result<(), AllocError>
     requires { AllFit (sent_by (Stepped step.now)) }
-    ensures { OnOk result (string_bytes text.new ≡ string_bytes text.old ++ answer_text (Stepped step.now)) }
+    ensures { OnOk result (string_bytes text.new ≡ string_bytes text.old ++ answer_text
+        (Stepped step.now)) }
 {
     match step {
         Ok(found) => push_found(alloc, text, found),
@@ -219,7 +222,8 @@ fn restart_refusal(error: RestartError) -> &'static str
 
 /// Adds the line of a file.
 pub(crate) fn push_file(text: &mut String, file: u32, told: FileReport) -> Result<(), AllocError>
-    ensures { OnOk result (string_bytes text.new ≡ string_bytes text.old ++ file_line file (Some told)) }
+    ensures { OnOk result (string_bytes text.new ≡ string_bytes text.old ++ file_line file
+        (Some told)) }
 {
     let FileReport { marked, blocks, .. } = told;
     let end = if told.complete { " complete" } else { "" };

@@ -43,8 +43,10 @@ fn read_and_run<R: WatchedReader, W: WatchedWriter>(
 ) -> Result<(), ReplayFault>
     ensures answer { IsReplay (R.remaining reader.old) (R.remaining reader.new)
         (W.contents writer.old) (W.contents writer.new) (status_after result) }
-    ensures read_fault { IfErr result (OnlyAfterFailure ReplayFault.Read (R.has_failed reader.new)) }
-    ensures write_fault { IfErr result (OnlyAfterFailure ReplayFault.Write (W.has_failed writer.new)) }
+    ensures read_fault { IfErr result (OnlyAfterFailure ReplayFault.Read
+        (R.has_failed reader.new)) }
+    ensures write_fault { IfErr result (OnlyAfterFailure ReplayFault.Write
+        (W.has_failed writer.new)) }
     ensures flushed { OnOk result (W.is_flushed writer.new) }
 {
     let script = read_script(alloc, reader)?;

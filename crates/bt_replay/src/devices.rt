@@ -50,7 +50,8 @@ pub(crate) fn zero_device(alloc: Global, length: u64) -> Result<Device, AllocErr
 pub(crate) fn set_device(devices: &mut Vec<Option<Device>>, line: &Line) -> bool
     requires { HasLawfulCall line.now }
     ensures set { OnTrue result (Sets devices.old.items line.now devices.new.items) }
-    ensures unset { OnFalse result ((new : List (Option Told)) → ¬ Sets devices.old.items line.now new) }
+    ensures unset { OnFalse result ((new : List (Option Told))
+        → ¬ Sets devices.old.items line.now new) }
     ensures kept { OnFalse result (devices.new.items ≡ devices.old.items) }
 {
     let Some(file) = set_file(line) else {

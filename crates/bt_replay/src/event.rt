@@ -54,7 +54,8 @@ fn push_files<D: Disk + Drop, H: NodeHash>(
     text: &mut String,
     engine: &Engine<D, H>,
 ) -> Result<(), AllocError>
-    ensures { OnOk result (string_bytes text.new ≡ string_bytes text.old ++ report_text engine.now.state) }
+    ensures { OnOk result (string_bytes text.new ≡ string_bytes text.old
+        ++ report_text engine.now.state) }
 {
     for file in 0..u32::MAX {
         match engine.report(file) {

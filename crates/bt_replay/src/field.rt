@@ -64,7 +64,8 @@ pub(crate) fn small_number_in(field: &[u8]) -> Option<u32>
 /// The bytes that a field spells in hexadecimal, where it does. Errors: out of memory, where it does.
 pub(crate) fn bytes_in(alloc: Global, field: &[u8]) -> Result<Option<Vec<u8>>, AllocError>
     ensures some { IfOk result (λ found. IfSome found (λ bytes. IsHex field.now bytes.items)) }
-    ensures none { IfOk result (λ found. IfNone found ((bytes : List ℕ) → ¬ IsHex field.now bytes)) }
+    ensures none { IfOk result
+        (λ found. IfNone found ((bytes : List ℕ) → ¬ IsHex field.now bytes)) }
     ensures memory { OnErr result ((bytes : List ℕ) × IsHex field.now bytes) }
 {
     // `decode` asks for memory before it reads the digits.

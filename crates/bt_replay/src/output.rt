@@ -17,7 +17,8 @@ pub(crate) fn push_output(
     output: &Output,
 ) -> Result<(), AllocError>
     requires { AllFit output.now.send }
-    ensures { OnOk result (string_bytes text.new ≡ string_bytes text.old ++ output_text output.now) }
+    ensures { OnOk result (string_bytes text.new ≡ string_bytes text.old
+        ++ output_text output.now) }
 {
     push_sent(alloc, text, output.send.as_slice())?;
     push_close(text, output.close)?;
@@ -27,7 +28,8 @@ pub(crate) fn push_output(
 /// Adds a line for each frame that is sent.
 fn push_sent(alloc: Global, text: &mut String, send: &[(PeerKey, Frame)]) -> Result<(), AllocError>
     requires { AllFit send.now }
-    ensures { OnOk result (string_bytes text.new ≡ string_bytes text.old ++ flat_map send_line send.now) }
+    ensures { OnOk result (string_bytes text.new ≡ string_bytes text.old
+        ++ flat_map send_line send.now) }
 {
     for (key, frame) in send {
         let words = frame_words(alloc, frame)?;
@@ -38,7 +40,8 @@ fn push_sent(alloc: Global, text: &mut String, send: &[(PeerKey, Frame)]) -> Res
 
 /// Adds the line of a frame that is told by these words.
 fn push_frame(text: &mut String, key: PeerKey, words: &str) -> Result<(), AllocError>
-    ensures { OnOk result (string_bytes text.new ≡ string_bytes text.old ++ sent_with key words.now) }
+    ensures { OnOk result (string_bytes text.new ≡ string_bytes text.old
+        ++ sent_with key words.now) }
 {
     writeln!(text, "send {} {words}", key.0)
 }
@@ -69,7 +72,8 @@ fn push_close(text: &mut String, close: Option<Why>) -> Result<(), AllocError>
 
 /// Adds a line for each note.
 fn push_notes(text: &mut String, notes: &[Note]) -> Result<(), AllocError>
-    ensures { OnOk result (string_bytes text.new ≡ string_bytes text.old ++ flat_map note_line notes.now) }
+    ensures { OnOk result (string_bytes text.new ≡ string_bytes text.old
+        ++ flat_map note_line notes.now) }
 {
     for note in notes {
         push_note(text, *note)?;
@@ -94,7 +98,8 @@ fn push_note(text: &mut String, note: Note) -> Result<(), AllocError>
 
 /// Adds a line of a word and a block.
 fn push_block(text: &mut String, word: &str, block: BlockId) -> Result<(), AllocError>
-    ensures { OnOk result (string_bytes text.new ≡ string_bytes text.old ++ block_line word.now block) }
+    ensures { OnOk result (string_bytes text.new ≡ string_bytes text.old
+        ++ block_line word.now block) }
 {
     writeln!(text, "{word} {} {}", block.file, block.block)
 }

@@ -23,7 +23,8 @@ pub fn read_script<R: WatchedReader>(alloc: Global, reader: &mut R) -> Result<Ve
     ensures script { IfOk result
         (λ script. GivesScript (R.remaining reader.old) (R.remaining reader.new) script.items) }
     ensures unread { IfErr result (IsUnread (R.remaining reader.old) (R.remaining reader.new)) }
-    ensures read_fault { IfErr result (OnlyAfterFailure ReplayFault.Read (R.has_failed reader.new)) }
+    ensures read_fault { IfErr result (OnlyAfterFailure ReplayFault.Read
+        (R.has_failed reader.new)) }
 {
     let mut script = Vec::new(alloc);
     let mut buffer = [0; READ_LEN];

@@ -33,7 +33,8 @@ pub fn run_all<D: Disk + Drop, H: NodeHash, W: WatchedWriter>(
         (lines_in lines.entry) (W.contents writer.old) (W.contents writer.new) engine.new) }
     ensures ended { IfErr result (EndsEarly D.conduct H.digest handshake.now engine.old
         number (lines_in lines.entry) (W.contents writer.old) (W.contents writer.new)) }
-    ensures write_fault { IfErr result (OnlyAfterFailure ReplayFault.Write (W.has_failed writer.new)) }
+    ensures write_fault { IfErr result (OnlyAfterFailure ReplayFault.Write
+        (W.has_failed writer.new)) }
     ensures flushed { OnOk result (W.is_flushed writer.new) }
 {
     run_lines(alloc, engine, hash, handshake, lines, number, writer)?;
@@ -59,7 +60,8 @@ fn run_lines<D: Disk + Drop, H: NodeHash, W: WatchedWriter>(
         (lines_in lines.entry) (W.contents writer.old) (W.contents writer.new) engine.new) }
     ensures ended { IfErr result (EndsEarly D.conduct H.digest handshake.now engine.old
         number (lines_in lines.entry) (W.contents writer.old) (W.contents writer.new)) }
-    ensures write_fault { IfErr result (OnlyAfterFailure ReplayFault.Write (W.has_failed writer.new)) }
+    ensures write_fault { IfErr result (OnlyAfterFailure ReplayFault.Write
+        (W.has_failed writer.new)) }
 {
     let mut rest = lines;
     let mut number = number;
@@ -86,7 +88,8 @@ fn run_line<D: Disk + Drop, H: NodeHash, W: WatchedWriter>(
         line.now (W.contents writer.old) (W.contents writer.new) engine.new) }
     ensures ended { IfErr result (EndsAtLine handshake.now number line.now
         (W.contents writer.old) (W.contents writer.new)) }
-    ensures write_fault { IfErr result (OnlyAfterFailure ReplayFault.Write (W.has_failed writer.new)) }
+    ensures write_fault { IfErr result (OnlyAfterFailure ReplayFault.Write
+        (W.has_failed writer.new)) }
 {
     let Some(spelled) = line_in(alloc, line)? else {
         return Err(ReplayFault::Line(number));

@@ -33,7 +33,8 @@ pub fn run_script<W: WatchedWriter>(
 ) -> Result<(), ReplayFault>
     requires { length script.now ≤ 2 ^ 24 }
     ensures replays { Replays script.now (W.contents writer.old) (W.contents writer.new) result }
-    ensures write_fault { IfErr result (OnlyAfterFailure ReplayFault.Write (W.has_failed writer.new)) }
+    ensures write_fault { IfErr result (OnlyAfterFailure ReplayFault.Write
+        (W.has_failed writer.new)) }
     ensures flushed { OnOk result (W.is_flushed writer.new) }
 {
     let (first, rest) = cut(without_last_feed(script), b'\n');
@@ -119,7 +120,8 @@ fn begin<'a>(
     lines: Option<&'a [u8]>,
 ) -> Result<(Engine<Device, Lanes>, Option<&'a [u8]>, u64), ReplayFault>
     requires { length (lines_in lines) < 2 ^ 64 }
-    ensures begun { IfOk result (λ b. BeginsOn torrent (lines_in lines.entry) b.0 (lines_in b.1) b.2) }
+    ensures begun { IfOk result (λ b. BeginsOn torrent (lines_in lines.entry) b.0
+        (lines_in b.1) b.2) }
     ensures fault { IfErr result (λ fault. fault ≡ ReplayFault.OutOfMemory) }
 {
     let mut devices = first_devices(alloc, torrent.files())?;

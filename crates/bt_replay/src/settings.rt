@@ -37,7 +37,8 @@ pub(crate) fn set_devices<'a>(
 /// Makes the setting that a text spells. False where it spells none; nothing changed then. Errors: out of
 /// memory.
 fn set_by(alloc: Global, devices: &mut Vec<Option<Device>>, text: &[u8]) -> Result<bool, AllocError>
-    ensures set { IfOk result (λ set. OnTrue set (SetsBy devices.old.items text.now devices.new.items)) }
+    ensures set { IfOk result
+        (λ set. OnTrue set (SetsBy devices.old.items text.now devices.new.items)) }
     ensures unset { IfOk result (λ set. OnFalse set (SetsNone devices.old.items text.now)) }
     ensures kept { IfOk result (λ set. OnFalse set (devices.new.items ≡ devices.old.items)) }
 {
