@@ -93,7 +93,8 @@ pub(crate) fn length_of(digits: &[u8]) -> Option<usize>
 pub(crate) fn integer_of(numeral: &[u8]) -> Option<i64>
     requires { IsAscii numeral.now }
     ensures { let number = signed_digits_value 10 numeral.now in
-        SomeIff result (IsNumeral 10 (without_leading_sign numeral.now) × FitsSigned w64 number) number }
+        SomeIff result (IsNumeral 10 (without_leading_sign numeral.now)
+        × FitsSigned w64 number) number }
 {
     ascii_text(numeral).parse().ok()
 }

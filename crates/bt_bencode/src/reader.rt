@@ -32,8 +32,10 @@ pub fn parse(alloc: Global, bytes: &[u8]) -> Result<Doc, BencodeError>
 
     // Out of memory aside, an error comes only where no canonical value spells the bytes.
     ensures none_spells { IfErr result (AtFault (λ _ _. NoneSpells bytes.now)) }
-    ensures truncated_at_end { IfErr result (AtFault (λ f at. f ≡ truncated → at ≡ length bytes.now)) }
-    ensures trailing_behind_value { IfErr result (AtFault (λ f at. f ≡ trailing → IsValueEnd bytes.now at)) }
+    ensures truncated_at_end { IfErr result
+        (AtFault (λ f at. f ≡ truncated → at ≡ length bytes.now)) }
+    ensures trailing_behind_value { IfErr result
+        (AtFault (λ f at. f ≡ trailing → IsValueEnd bytes.now at)) }
 {
     let length = bytes.len();
     let (value, end) = value_at(alloc, bytes, 0, MAX_NESTING)?;

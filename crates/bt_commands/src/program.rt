@@ -41,7 +41,8 @@ pub fn start<
 >(rt: &R, net: &N, watch: &P, reader: &mut I, writer: &mut O, faults: &mut E) -> ExitCode
     ensures answer { IsStart (I.remaining reader.old) (I.remaining reader.new)
         (O.contents writer.old) (O.contents writer.new) (exit_status result) }
-    ensures faultless { exit_status result ≤ 1 → Keeps (E.contents faults.old) (E.contents faults.new) }
+    ensures faultless { exit_status result ≤ 1 → Keeps (E.contents faults.old)
+        (E.contents faults.new) }
 {
     let status = match words(rt) {
         Ok(words) => run(rt, net, watch, words.as_slice(), reader, writer, faults),
@@ -82,7 +83,8 @@ pub fn run<
     writer: &mut O,
     faults: &mut E,
 ) -> u8
-    ensures answer { IsRun (map string_bytes words.now) (I.remaining reader.old) (I.remaining reader.new)
+    ensures answer { IsRun (map string_bytes words.now) (I.remaining reader.old)
+        (I.remaining reader.new)
         (O.contents writer.old) (O.contents writer.new) result }
 
     // where the words, the torrent or a log are refused, nothing is written; but that a log is full shows after
@@ -127,11 +129,13 @@ fn attempt<
     writer: &mut O,
     faults: &mut E,
 ) -> Result<u8, Fault>
-    ensures answer { IsRun (map string_bytes words.now) (I.remaining reader.old) (I.remaining reader.new)
+    ensures answer { IsRun (map string_bytes words.now) (I.remaining reader.old)
+        (I.remaining reader.new)
         (O.contents writer.old) (O.contents writer.new) (status_after result) }
     ensures unread { ¬ IsTaskOf (map string_bytes words.now) Replay
         → Keeps (I.remaining reader.old) (I.remaining reader.new) }
-    ensures faultless { status_after result ≤ 1 → Keeps (E.contents faults.old) (E.contents faults.new) }
+    ensures faultless { status_after result ≤ 1 → Keeps (E.contents faults.old)
+        (E.contents faults.new) }
 {
     match parse(rt.alloc(), words) {
         Ok(task) => {
@@ -191,9 +195,11 @@ fn perform<
 ) -> Result<u8, Fault>
     ensures done { IfOk result (IsDone task.entry (I.remaining reader.old) (I.remaining reader.new)
         (O.contents writer.old) (O.contents writer.new)) }
-    ensures ended { IfErr result (IsTaskEnd task.entry (O.contents writer.old) (O.contents writer.new)) }
+    ensures ended { IfErr result (IsTaskEnd task.entry (O.contents writer.old)
+        (O.contents writer.new)) }
     ensures unread { task.entry ≢ Replay → Keeps (I.remaining reader.old) (I.remaining reader.new) }
-    ensures faultless { status_after result ≤ 1 → Keeps (E.contents faults.old) (E.contents faults.new) }
+    ensures faultless { status_after result ≤ 1 → Keeps (E.contents faults.old)
+        (E.contents faults.new) }
 {
     match task {
         Task::Make(request) => perform_make(rt, watch, request, writer),
@@ -387,7 +393,8 @@ fn explain<O: Write, E: Write>(
 ) -> Result<u8, Fault>
     ensures answer { IsExplanation
         (kind_of error.now) (O.contents writer.old) (O.contents writer.new) (status_after result) }
-    ensures faultless { status_after result ≤ 1 → Keeps (E.contents faults.old) (E.contents faults.new) }
+    ensures faultless { status_after result ≤ 1 → Keeps (E.contents faults.old)
+        (E.contents faults.new) }
 {
     if error.kind() == ErrorKind::OutOfMemory {
         return Err(Fault::OutOfMemory);

@@ -5,8 +5,7 @@ use bt_devices::Alarm;
 use std::io::{self, ErrorKind, Read};
 use std::marker::Model;
 
-/// A reader that gives nothing more while an alarm rings: each read fails then. Else it gives what its inner
-/// reader gives.
+/// A reader whose reads fail while an alarm rings. Else it gives what its inner reader gives.
 #[derive(Drop)]
 pub struct AlarmReader<'a, R> {
     inner: R,
@@ -20,7 +19,8 @@ impl<'a, R> Model for AlarmReader<'a, R> {
 }
 
 impl<'a, R> AlarmReader<'a, R> {
-    /// A reader of `inner` that fails while the alarm rings, which is stopped first: what rang it came before.
+    /// A reader of `inner` that fails while `alarm` rings. The alarm is stopped first, since whatever rang it came
+    /// before this connection.
     pub fn new(inner: R, alarm: &'a Alarm) -> Self
         ensures { result ≡ inner }
     {
@@ -32,7 +32,7 @@ impl<'a, R> AlarmReader<'a, R> {
 impl<'a, R: Read> Read for AlarmReader<'a, R> {
     ghost remaining = { λ r. R.remaining r };
 
-    /// Errors: those of the inner reader, and `Other` while the alarm rings, where nothing is read.
+    /// Errors: those of the inner reader; `Other` while the alarm rings, and then nothing is read.
     fn read(&mut self, buffer: &mut [u8]) -> io::Result<usize> {
         if self.alarm.is_ringing() {
             return Err(io::Error::from(ErrorKind::Other));

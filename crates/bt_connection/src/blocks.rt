@@ -1,4 +1,5 @@
-//! Messages with a whole block among bytes that wait, as they are given on and their blocks digested ahead.
+//! The messages with a whole block among the bytes that wait in a `ReadAhead`. These bytes are given on at once, and
+//! the blocks in them are digested ahead of time.
 ghost use Rattle.std.specs.Prelude.{◌≡◌, ◌↔◌, [], ◌∷◌, ◌++◌, length, take, Contains, IsTrue, IfSome};
 ghost use Rattle.bt_tree.specs.Limits.{full_block_length};
 ghost use Rattle.bt_connection.specs.declared.blocks.TheConstants.{COUNT};
@@ -9,14 +10,15 @@ use bt_tree::BLOCK_LEN;
 use bt_wire::frames::PIECE_HEAD_LEN;
 use std::marker::Model;
 
-/// How many messages with a whole block there is room for (`AheadRoom`), and how many blocks are digested together.
+/// How many messages with a whole block an `AheadRoom` has room for, and how many blocks are digested together.
 const COUNT: usize = 8;
 
-/// How many of these blocks have to be there at least: the lanes of those that are missing cost as much as the others.
+/// How many blocks there have to be at least for that. Eight are digested in any case, and those that are missing
+/// cost as much as the others.
 const FEWEST: usize = 5;
 
-/// Where the first eight messages with a whole block begin, each by how many bytes are left there. So nothing changes
-/// when bytes before them are given.
+/// Where the first eight messages with a whole block begin. For each it is kept how many bytes are left from there to
+/// the end of all bytes that wait: so nothing changes when bytes in front are given.
 #[derive(Drop)]
 pub(crate) struct Blocks {
     lefts: ArrayVec<usize, COUNT>,
@@ -39,7 +41,7 @@ impl Blocks {
         }
     }
 
-    /// Notes one more, after the others. Where eight are known, nothing is done.
+    /// Notes where one more message begins, behind those that are known. Where eight are known, nothing is done.
     pub(crate) fn push(&mut self, left: usize)
         ensures { self.new ≡ take COUNT (self.old ++ left ∷ []) }
     {
@@ -48,14 +50,15 @@ impl Blocks {
         }
     }
 
-    /// Whether one of them begins where `left` bytes are left.
+    /// Whether one of the messages begins where `left` bytes are left.
     pub(crate) fn begin_at(&self, left: usize) -> bool
         ensures { IsTrue result ↔ Contains self.now left }
     {
         self.lefts.as_slice().contains(&left)
     }
 
-    /// The block of this number, or the last one in its place; None where none is known.
+    /// The block of the message of this number, counted from 0; that of the last known message where there are fewer.
+    /// None where no message is known.
     fn block<'a>(&self, number: usize, bytes: &'a [u8]) -> Option<&'a [u8]>
         ensures { IfSome result (λ block. length block.now ≡ full_block_length) }
     {
@@ -66,8 +69,9 @@ impl Blocks {
         bytes.get(begin..)?.get(..BLOCK_LEN)
     }
 
-    /// Gives eight to the cache, where five at least are known, and it is due: the last one stands also in the
-    /// place of those that are missing. The bytes end where those did in which they were noted.
+    /// Has the cache digest the blocks together, where five at least are known and the cache is due for more. In
+    /// place of blocks that are missing to eight the last one is digested again. `bytes` end where the bytes ended in
+    /// which the messages were noted.
     pub(crate) fn fill(&self, cache: &mut DigestCache, bytes: &[u8]) {
         if self.lefts.len() < FEWEST || !cache.is_due() {
             return;
@@ -75,7 +79,7 @@ impl Blocks {
         let _ = self.give(cache, bytes);
     }
 
-    /// Gives eight to the cache; None where one of them is not in the bytes.
+    /// Has the cache digest eight blocks. None where one of them does not lie in the bytes.
     fn give(&self, cache: &mut DigestCache, bytes: &[u8]) -> Option<()> {
         cache.fill(&[
             self.block(0, bytes)?,

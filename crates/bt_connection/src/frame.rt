@@ -9,18 +9,18 @@ use bt_wire::frames::{LENGTH_LEN, PIECE, PIECE_FIELD, REQUEST, REQUEST_FIELD};
 /// The length field of a piece with a whole block.
 pub(crate) const BLOCK_FIELD: usize = PIECE_FIELD + BLOCK_LEN;
 
-/// What bytes begin with.
+/// What the bytes of a stream begin with.
 #[derive(Drop)]
 pub(crate) enum Front {
-    /// A frame.
+    /// A whole frame.
     Frame,
-    /// What may become a message that is translated.
+    /// The beginning of what may become a message that is translated.
     Part,
-    /// Another message, and how many bytes of it are missing.
+    /// The beginning of another message, and how many bytes of that message are missing.
     Other(usize),
 }
 
-/// What the bytes begin with.
+/// Finds what these bytes begin with.
 pub(crate) fn front_of(bytes: &[u8]) -> Front
     ensures { IsFront bytes.now result }
 {
@@ -39,7 +39,8 @@ pub(crate) fn front_of(bytes: &[u8]) -> Front
     }
 }
 
-/// How many bytes are missing after these until there is a length field, or else until the frame is whole.
+/// How many bytes are missing behind these: until the length field is whole, where it is not; else until the frame
+/// is.
 pub(crate) fn missing_of(bytes: &[u8]) -> usize
     requires { Waits bytes.now }
     ensures { IsMissing bytes.now result }

@@ -1,26 +1,26 @@
-//! Laws of the padding: which requests are remembered, which pieces are filled with zeros, and what passes as
-//! it is. The functions do nothing when they run.
+//! Laws of the padding: which requests are remembered, which pieces are filled up with zeros, and what passes as it
+//! is. The functions do nothing when they run.
 ghost use Rattle.bt_connection.specs.Law.{ShortBlocksAreLast, RemembersShortBlocks, ZerosLieBehindTheEnd, PadsWhatWasAsked, PlainPassesThrough, GivenOnCanBeSent};
 ghost use Rattle.bt_connection.specs.TranslationLaw.{GivesStreams};
 
 use bt_wire::streams_have_one_reading;
 
-/// The short blocks of a torrent are just the last blocks of its files that are short.
+/// The short blocks of a torrent are the last blocks of its files that are short, and no others.
 pub fn short_blocks_are_last()
     ensures { ShortBlocksAreLast }
 {}
 
-/// What is remembered of a peer are requests for short blocks.
+/// All that is remembered of a peer are requests for short blocks.
 pub fn remembers_short_blocks()
     ensures { RemembersShortBlocks }
 {}
 
-/// A piece goes out as the engine cut it, or with zeros where its file has ended.
+/// A piece goes out as the engine cut it, or filled up with zeros where its file has ended.
 pub fn zeros_lie_behind_the_end()
     ensures { ZerosLieBehindTheEnd }
 {}
 
-/// From no place of a piece on are pieces filled more often than the peer has asked for a whole block there.
+/// Pieces from a place are filled up no more often than the peer has asked there for a whole block.
 pub fn pads_what_was_asked()
     ensures { PadsWhatWasAsked }
 {}
@@ -30,12 +30,12 @@ pub fn plain_passes_through()
     ensures { PlainPassesThrough }
 {}
 
-/// What is given on in place of a message can be sent where the message could be.
+/// What is given on in place of a message can be sent wherever that message could be.
 pub fn given_on_can_be_sent()
     ensures { GivenOnCanBeSent }
 {}
 
-/// Where whole events came, as many whole events are given on, and nothing else.
+/// Where whole events came, just as many whole events are given on, and nothing else.
 pub fn gives_streams()
     ensures { GivesStreams }
 {

@@ -1,20 +1,20 @@
-//! What is remembered of one connection, and lent to what stands before its socket.
+//! What is remembered of one connection, and is lent to the readers and writers before its socket.
 
 use std::alloc::AllocError;
 use std::cell::{BorrowMutError, RefCell, RefMut};
 
-/// What is remembered of a connection, of which the next one has nothing but the memory.
+/// What is remembered of a connection. The next connection has the same memory, but finds nothing in it.
 pub trait Renew {
-    /// It is as at a connection's beginning.
+    /// It remembers nothing, as at the beginning of a connection.
     ghost is_new: { Self → Type 0 };
 
-    /// Forgets all. It takes no memory.
+    /// Forgets all. Takes no memory.
     fn renew(&mut self)
         ensures { is_new self.new };
 }
 
-/// What is remembered of one connection, which both its ways have. It was made new for that connection, since what lies
-/// in a cell is lent so alone. What that is no clause knows.
+/// What is remembered of one connection, in a cell that both its reader and its writer have. It was made new for that
+/// connection: nothing can be lent in another way. What lies in the cell later no clause knows.
 pub struct Lent<'a, T> {
     cell: &'a RefCell<T>,
 }
@@ -28,8 +28,8 @@ impl<T> Clone for Lent<'_, T> {
 impl<T> Copy for Lent<'_, T> {}
 
 impl<'a, T: Renew> Lent<'a, T> {
-    /// Makes what lies in the cell new, for a connection that begins. Errors: it is in use, which no call of this crate
-    /// brings about.
+    /// Makes what lies in the cell new, for a connection that begins, and lends it. Errors: the cell is in use, which
+    /// no call of this crate brings about.
     pub fn new(cell: &'a RefCell<T>) -> Result<Self, BorrowMutError> {
         let mut guard = cell.try_borrow_mut()?;
         (&mut *guard).renew();
@@ -38,7 +38,7 @@ impl<'a, T: Renew> Lent<'a, T> {
 }
 
 impl<'a, T> Lent<'a, T> {
-    /// Borrows it. Errors: it is in use.
+    /// Borrows what lies in the cell. Errors: the cell is in use.
     pub fn try_borrow_mut(&self) -> Result<RefMut<'a, T>, BorrowMutError> {
         self.cell.try_borrow_mut()
     }

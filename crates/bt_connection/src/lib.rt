@@ -1,4 +1,4 @@
-//! The way of a peer's bytes between its socket and its engine: readers one above the other, and writers, each over any
+//! What stands between the socket of a peer and its engine: readers one above the other, and writers, each over any
 //! reader or writer.
 #![tactic(auto)]
 

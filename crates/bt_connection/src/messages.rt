@@ -1,4 +1,4 @@
-//! The messages in a run of bytes (BEP 3), and the whole blocks that they carry.
+//! The messages among bytes that came of a peer (BEP 3), and the whole blocks that these messages carry.
 ghost use Rattle.std.specs.Prelude.{◌≡◌, ◌↔◌, ◌<◌, ◌≤◌, All, length, take, drop, IsTrue};
 ghost use Rattle.std.specs.Bool.{OnFalse};
 ghost use Rattle.bt_wire.specs.Frames.{HasNoMessage};
@@ -9,17 +9,17 @@ use crate::blocks::Blocks;
 use crate::observer::{Observer, Rest, tell_message};
 use bt_wire::frames::{BLOCK_MESSAGE_LEN, LENGTH_LEN, PIECE, first_message, message_len};
 
-/// Messages one after the other.
+/// Whole messages, one after the other.
 #[derive(Drop)]
-struct Run {
-    /// How many bytes they have.
+struct WholeMessages {
+    /// How many bytes they have together.
     len: usize,
-    /// The messages among them that carry a whole block.
+    /// Those of them that carry a whole block.
     blocks: Blocks,
 }
 
-/// The messages in front that are whole, each of which is looked at once, and told.
-fn whole_messages<O: Observer>(bytes: &[u8], observer: &O) -> Run
+/// The whole messages with which the bytes begin. Each is looked at once, and the observer is told of it.
+fn whole_messages<O: Observer>(bytes: &[u8], observer: &O) -> WholeMessages
     ensures within { result.len ≤ length bytes.now }
     ensures messages { AreMessages (take result.len bytes.now) }
     ensures part { HasNoMessage (drop result.len bytes.now) }
@@ -35,7 +35,7 @@ fn whole_messages<O: Observer>(bytes: &[u8], observer: &O) -> Run
         }
         at += len;
     }
-    Run { len: at, blocks }
+    WholeMessages { len: at, blocks }
 }
 
 /// Whether a message carries a whole block.
@@ -45,7 +45,7 @@ fn carries_block(message: &[u8]) -> bool
     message.len() == BLOCK_MESSAGE_LEN && message[LENGTH_LEN] == PIECE
 }
 
-/// Whether the message that begins so may carry a whole block.
+/// Whether a message of which this part has come may carry a whole block.
 fn may_carry_block(part: &[u8]) -> bool
     ensures answer { IsTrue result ↔ MayCarryBlock part.now }
     ensures begun { OnFalse result (4 ≤ length part.now) }
@@ -59,22 +59,22 @@ fn may_carry_block(part: &[u8]) -> bool
     part.len() == LENGTH_LEN || part[LENGTH_LEN] == PIECE
 }
 
-/// Where bytes that wait are cut.
+/// Where the bytes that wait in a room are cut: those in front may be given.
 #[derive(Drop)]
 pub(crate) struct Cut {
-    /// How many bytes may be given,
+    /// How many bytes may be given.
     pub(crate) ready: usize,
-    /// and which messages among them carry a whole block.
+    /// Which messages among these bytes carry a whole block.
     pub(crate) blocks: Blocks,
-    /// How many bytes are to come of a message that is given as it comes,
+    /// How many bytes are still to come of a message that is given as it comes.
     pub(crate) owed: usize,
-    /// and what they are.
+    /// What these bytes are.
     pub(crate) rest: Rest,
 }
 
-/// Cuts bytes of which the first `owed` are the rest of a message that is given as it comes: these may be
-/// given, as far as they are there, and the whole messages after them, and what there is of one that can't carry
-/// a whole block.
+/// Cuts bytes that begin with the rest of a message that is given as it comes, of which `owed` bytes were still to
+/// come. What is there of this rest may be given; so may the whole messages behind it; and so may what there is of a
+/// message behind those that can't carry a whole block.
 fn cut_messages<O: Observer>(owed: usize, rest: Rest, bytes: &[u8], observer: &O) -> Cut
     ensures cut { IsCut bytes.now result }
     ensures leads { Leads owed (take result.ready bytes.now) result.owed }
@@ -82,27 +82,27 @@ fn cut_messages<O: Observer>(owed: usize, rest: Rest, bytes: &[u8], observer: &O
 {
     let begin = owed.min(bytes.len());
     let left = rest.tell(observer, &bytes[..begin], begin == owed);
-    let run = whole_messages(&bytes[begin..], observer);
-    let whole = begin + run.len;
+    let messages = whole_messages(&bytes[begin..], observer);
+    let whole = begin + messages.len;
     let part = &bytes[whole..];
     if may_carry_block(part) {
         return Cut {
             ready: whole,
-            blocks: run.blocks,
+            blocks: messages.blocks,
             owed: owed - begin,
             rest: left,
         };
     }
     Cut {
         ready: bytes.len(),
-        blocks: run.blocks,
+        blocks: messages.blocks,
         owed: message_len(part) - part.len(),
         rest: Rest::Message.tell(observer, &part[LENGTH_LEN..], false),
     }
 }
 
-/// Cuts bytes that wait, of which `count` came by the last read, and tells what came. Where none came, all may be
-/// given, and so may whatever comes after an end.
+/// Cuts bytes that wait, of which the last read brought the last `count`, and tells the observer what came. A read
+/// that brought none was the reader's end: then all bytes may be given, and so may whatever comes later.
 pub(crate) fn cut_behind<O: Observer>(
     count: usize,
     owed: usize,

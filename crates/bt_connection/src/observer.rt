@@ -1,4 +1,4 @@
-//! Who is told what a peer sends, as it comes.
+//! Whom a reader tells what its peer sends, as it comes.
 ghost use Rattle.std.specs.Prelude.{◌≡◌};
 ghost use Rattle.bt_connection.specs.ObserverSteps.{IsArrivalOf};
 
@@ -6,37 +6,37 @@ use bt_hashreq::number_at;
 use bt_wire::Ask;
 use bt_wire::frames::{BITFIELD, LENGTH_LEN, PIECE};
 
-/// What came of a peer.
+/// What came from a peer.
 #[derive(Clone, Copy, Debug, PartialEq, Eq)]
 pub enum Arrival {
-    /// The handshake, whole.
+    /// The whole handshake.
     Handshake,
-    /// A message without a kind, by which a connection is kept alive.
+    /// A message without a kind: it only keeps the connection alive.
     KeepAlive,
-    /// A part of a bitfield, and how many bits are set in it. It may come in several, and after the last of
-    /// them it is told as a message.
+    /// A part of a bitfield, in which so many bits are set. A bitfield may come in several parts, and after the last
+    /// of them is told as a `Message`.
     Bits(u64),
-    /// A piece with the bytes of this range, whole.
+    /// A whole piece, with the bytes of this range.
     Block(Ask),
-    /// Another message, of this kind, whole; or a piece that is too short to name its range.
+    /// Any other whole message, by its kind; or a piece that is too short to name its range.
     Message(u8),
 }
 
-/// Who is told what comes of a peer, once for each message, by the read that brings its last byte. No clause
-/// speaks of what is told.
+/// Whom a reader tells what comes from its peer: once for each message, by the read that brings its last byte. No
+/// clause speaks of what is told.
 pub trait Observer {
     fn came(&self, arrival: Arrival);
 }
 
-/// How many bytes the payload of a piece begins with: its index, and where its block begins.
+/// How many bytes of a piece's payload name its place: the index of the piece, and where the block begins in it.
 const PLACE_LEN: usize = 8;
 
 /// What has come of the payload of a piece.
 #[derive(Clone, Copy)]
 pub(crate) struct PiecePayload {
-    /// The first bytes of it, as far as they have come.
+    /// The bytes that name the place, as far as they have come.
     place: [u8; PLACE_LEN],
-    /// How many bytes have come.
+    /// How many bytes of the payload have come.
     len: usize,
 }
 
@@ -50,7 +50,7 @@ impl PiecePayload {
         }
     }
 
-    /// Adds the next bytes.
+    /// Adds the next bytes of the payload.
     fn with(mut self, part: &[u8]) -> Self {
         let known = self.len.min(PLACE_LEN);
         let count = part.len().min(PLACE_LEN - known);
@@ -59,7 +59,7 @@ impl PiecePayload {
         self
     }
 
-    /// What came, where this is all.
+    /// What came, where the payload ends here.
     fn arrival(&self) -> Arrival
         ensures { IsArrivalOf self.now result }
     {
@@ -74,22 +74,22 @@ impl PiecePayload {
     }
 }
 
-/// What is to come of a handshake or a message that is given as it comes.
+/// What is still to come of a handshake or a message that is given as it comes.
 #[derive(Clone, Copy)]
 pub(crate) enum Rest {
-    /// Nothing, or what nobody is told of: bytes after an end.
+    /// Nothing; or bytes of which nobody is told, since they come after an end.
     Nothing,
     Handshake,
-    /// All but the length of a message.
+    /// All of a message but its length field.
     Message,
-    /// The payload of a piece, after what has come of it.
+    /// The rest of the payload of a piece, behind what has come of it.
     Piece(PiecePayload),
-    /// The payload of another message, of this kind.
+    /// The rest of the payload of another message, of this kind.
     Payload(u8),
 }
 
 impl Rest {
-    /// The whole payload of a message of this kind.
+    /// The whole payload of a message of this kind, of which nothing has come.
     fn payload_of(kind: u8) -> Rest {
         match kind {
             PIECE => Rest::Piece(PiecePayload::new()),
@@ -97,7 +97,8 @@ impl Rest {
         }
     }
 
-    /// Tells of the next bytes of it, which may be the last ones, and says what is to come after them.
+    /// Tells the observer what the next bytes, `part`, bring, and gives what is still to come after them: nothing
+    /// where they are the last.
     pub(crate) fn tell<O: Observer>(self, observer: &O, part: &[u8], is_last: bool) -> Rest {
         let rest = self.tell_part(observer, part);
         if !is_last {
@@ -112,8 +113,8 @@ impl Rest {
         Rest::Nothing
     }
 
-    /// Tells of what the next bytes have of a payload, and says what is to come after them where they are
-    /// not the last ones.
+    /// Tells the observer what the next bytes bring of a payload, and gives what is still to come after them if they
+    /// are not the last.
     fn tell_part<O: Observer>(self, observer: &O, part: &[u8]) -> Rest {
         match (self, part) {
             (Rest::Message, [kind, payload @ ..]) => {
@@ -123,8 +124,7 @@ impl Rest {
         }
     }
 
-    /// Tells of what the next bytes have of a payload, where they don't begin with a kind, and says what is to come
-    /// after them where they are not the last ones.
+    /// The same for bytes that do not begin with the kind of a message.
     fn tell_payload<O: Observer>(self, observer: &O, part: &[u8]) -> Rest {
         match self {
             Rest::Piece(payload) => Rest::Piece(payload.with(part)),
@@ -137,7 +137,7 @@ impl Rest {
     }
 }
 
-/// Tells of a message that is whole.
+/// Tells the observer of a whole message.
 pub(crate) fn tell_message<O: Observer>(observer: &O, message: &[u8]) {
     match message.get(LENGTH_LEN..) {
         Some([]) | None => observer.came(Arrival::KeepAlive),
@@ -147,14 +147,14 @@ pub(crate) fn tell_message<O: Observer>(observer: &O, message: &[u8]) {
     }
 }
 
-/// Tells of a part of the payload of a message of this kind, if that is a bitfield.
+/// Tells the observer how many bits are set in a part of a payload, if that is a bitfield's.
 fn tell_bits<O: Observer>(observer: &O, kind: u8, part: &[u8]) {
     if kind == BITFIELD && !part.is_empty() {
         observer.came(Arrival::Bits(bit_count(part)));
     }
 }
 
-/// How many bits are set.
+/// How many bits are set in these bytes.
 fn bit_count(bytes: &[u8]) -> u64 {
     let mut count: u64 = 0;
     for byte in bytes {

@@ -1,4 +1,5 @@
-//! What is remembered of a peer that counts each block as 16,384 bytes, and what stands for its messages.
+//! What is remembered of a peer that counts each block as 16,384 bytes, and which messages stand for those of the
+//! peer and of its engine.
 ghost use Rattle.std.specs.Prelude.{◌≡◌, IfOk, IfSome, IfNone, Contains};
 ghost use Rattle.bt_wire.specs.Frames.{IsFrame};
 ghost use Rattle.bt_connection.specs.Padding.{new_memory, with_asked, without};
@@ -19,11 +20,12 @@ use std::marker::Model;
 /// How many requests are remembered at most.
 const MAX_REMEMBERED: usize = 1024;
 
-/// The requests of a peer for padded blocks, shortened as they were given on, that are not answered yet. One that the
-/// engine ignores, as while the peer is choked, stays until the next request for its block comes.
+/// The requests of a peer for padded blocks that are not answered yet, each with the length that it was given on
+/// with. A request that the engine ignores, as while the peer is choked, stays until the peer next asks for that
+/// block.
 #[derive(Drop)]
 pub struct Padding {
-    /// From the oldest on.
+    /// The requests, from the oldest on.
     asked: Vec<Ask>,
 }
 
@@ -41,8 +43,7 @@ impl Model for Padding {
 }
 
 impl Padding {
-    /// A padding that remembers nothing yet. All the memory that is ever taken for it is taken here. Errors: out of
-    /// memory.
+    /// A padding that remembers nothing yet. All the memory that it ever takes is taken here. Errors: out of memory.
     pub fn new(alloc: Global) -> Result<Self, AllocError>
         ensures { IfOk result (λ padding. padding ≡ new_memory) }
     {
@@ -50,8 +51,8 @@ impl Padding {
         Ok(Padding { asked })
     }
 
-    /// Puts what an engine gets of a frame of its peer in its place. What is remembered for a block is forgotten where
-    /// it is asked for again.
+    /// Puts in the place of a frame of the peer what the engine gets for it. Where the peer asks for a short block,
+    /// what was remembered for this block is forgotten.
     pub(crate) fn incoming(&mut self, blocks: &ShortBlocks, frame: &mut FrameRoom)
         ensures { Gives blocks.now Peer self.old frame.old frame.new self.new }
     {
@@ -73,7 +74,7 @@ impl Padding {
         }
     }
 
-    /// Puts what a peer gets of a frame of its engine in its place.
+    /// Puts in the place of a frame of the engine what the peer gets for it.
     pub(crate) fn outgoing(&mut self, blocks: &ShortBlocks, frame: &mut FrameRoom)
         requires { IsFrame frame.old }
         ensures { Gives blocks.now Engine self.old frame.old frame.new self.new }
@@ -89,7 +90,8 @@ impl Padding {
         }
     }
 
-    /// Where the request for a short block stands first that a piece with this range answers.
+    /// The index of the first remembered request that a piece with this range answers. None where it answers none, or
+    /// is no short block.
     fn answered(&self, blocks: &ShortBlocks, ask: Ask) -> Option<usize>
         ensures first { IfSome result (IsFirstAt self.now ask) }
         ensures short { IfSome result (λ _. Contains blocks.now ask) }
@@ -103,14 +105,14 @@ impl Padding {
         self.asked.iter().position(|other| *other == ask)
     }
 
-    /// Forgets a request, however often it was remembered.
+    /// Forgets a request, however often it is remembered.
     fn take_back(&mut self, ask: Ask)
         ensures { self.new ≡ without self.old ask }
     {
         self.asked.retain(|other| *other != ask);
     }
 
-    /// Remembers a request; beyond the limit the oldest is forgotten.
+    /// Remembers a request. Where as many are remembered as may be, the oldest is forgotten.
     fn remember(&mut self, ask: Ask)
         ensures { self.new ≡ with_asked self.old ask }
     {

@@ -1,4 +1,4 @@
-//! Bytes that wait before a writer that takes what it can at a time.
+//! Bytes that wait for a writer, which takes what it can at a time.
 ghost use Rattle.std.specs.Prelude.{[], ◌≡◌, ◌≤◌, ◌++◌, true, length, IfOk, OnOk, OnErr};
 ghost use Rattle.std.specs.Io.{WritesAtMost};
 ghost use Rattle.std.specs.Io.KnownBytes.{Appends, Keeps, WriteAppends, append_known};
@@ -11,12 +11,12 @@ use std::marker::Model;
 /// How many bytes may wait: 4 MiB.
 const MOST_WAITING: usize = 4_194_304;
 
-/// A writer that takes all that is written, and passes it on as its inner writer takes it.
+/// A writer that takes all that is written to it, up to 4 MiB, and passes it on as its inner writer takes it.
 #[derive(Drop)]
 pub struct Queue<W> {
     inner: W,
     bytes: Vec<u8>,
-    /// How many of the bytes were passed on.
+    /// How many of the bytes were passed on already.
     start: usize,
 }
 
@@ -33,7 +33,7 @@ impl<W> Model for Queue<W> {
 }
 
 impl<W> Queue<W> {
-    /// Nothing waits before this writer.
+    /// A queue in which nothing waits. It takes no memory.
     pub fn new(alloc: Global, inner: W) -> Self
         ensures { result ≡ record { inner = inner; bytes = [] } }
     {
@@ -52,7 +52,7 @@ impl<W> Queue<W> {
         self.bytes.len() - self.start
     }
 
-    /// Lets bytes wait behind the others, all or none. Errors: out of memory; more than 4 MiB would wait.
+    /// Lets bytes wait behind the others, all of them or none. Errors: out of memory; more than 4 MiB would wait.
     pub fn put(&mut self, more: &[u8]) -> io::Result<()>
         ensures same_writer { self.new.inner ≡ self.old.inner }
         ensures behind { OnOk result (self.new.bytes ≡ self.old.bytes ++ more.now) }
@@ -68,7 +68,8 @@ impl<W> Queue<W> {
         }
     }
 
-    /// Forgets what was passed on, once that is no less than what waits: so no more is moved than was passed on.
+    /// Drops the bytes that were passed on, once they are no fewer than those that wait: so no more bytes are moved
+    /// than were passed on.
     fn make_room(&mut self)
         ensures { self.new ≡ self.old }
     {
@@ -82,9 +83,9 @@ impl<W> Queue<W> {
 }
 
 impl<W: Write> Queue<W> {
-    /// Passes on the first of the bytes that wait, as many as the writer takes by one write: whether none waits
-    /// then. A writer that would have to wait takes none, and that is no error. Errors: those of the writer, and
-    /// one where it takes none; nothing is passed on then.
+    /// Passes on the first of the bytes that wait, as many as the inner writer takes by one write; gives whether none
+    /// waits any more. Where the inner writer would have to wait, it takes none, and that is no error. Errors: those
+    /// of the inner writer; `WriteZero` where it takes none though it could; and then nothing is passed on.
     pub fn drain(&mut self) -> io::Result<bool>
         ensures drained { IsDrained W.contents self.old self.new }
         ensures whole { IfOk result (λ whole. whole ≡ true → self.new.bytes ≡ []) }
@@ -109,7 +110,7 @@ impl<W: Write> Queue<W> {
 impl<W: Write> Write for Queue<W> {
     ghost contents = { λ q. append_known (W.contents q.inner) q.bytes };
 
-    /// Lets all of the bytes wait. Errors: those of `put`, and none of them waits.
+    /// Lets all of the bytes wait. Errors: those of `put`, and then none of them waits.
     fn write(&mut self, bytes: &[u8]) -> io::Result<usize> {
         match self.put(bytes) {
             Ok(()) => Ok(bytes.len()),
@@ -117,7 +118,7 @@ impl<W: Write> Write for Queue<W> {
         }
     }
 
-    /// Passes nothing on: `drain` does.
+    /// Passes nothing on: only `drain` does.
     fn flush(&mut self) -> io::Result<()> {
         Ok(())
     }

@@ -18,33 +18,32 @@ use std::io;
 use std::io::Read;
 use std::marker::Model;
 
-/// How many bytes there is room for (`ahead_room_length`): eight messages of a whole block each, and a part
-/// of one more.
+/// How many bytes there is room for (`ahead_room_length`): eight messages with a whole block, and a part of one more.
 const ROOM_LEN: usize = 135_168;
 
-/// Room for bytes that are read and not given yet.
+/// Room for bytes that were read and are not given yet.
 pub type AheadRoom = Room<ROOM_LEN>;
 
-/// A reader of what a peer sends, which reads ahead of its engine, tells an observer what comes, and has the blocks
-/// in it digested eight at a time, before the engine asks for their digests one by one.
+/// A reader of what a peer sends, which reads ahead of its engine. It tells an observer what comes, and has blocks
+/// digested, eight at a time, before the engine asks for their digests one by one.
 ///
-/// It gives just the bytes of the inner reader, in order, whatever they are. Those of a message that may carry
-/// a whole block wait until it is whole or the inner reader has ended; all others may be given as they come,
-/// since they may show a fault. While something may be given, that reader is not asked, since it could wait for
-/// ever.
+/// It gives just the bytes of the inner reader, in order, whatever they are. A message that may carry a whole block
+/// waits until it is whole, or the inner reader has ended. All other bytes are given as they come, since they may
+/// show a fault. While something may be given, the inner reader is not read, since that could wait for ever.
 #[derive(Drop)]
 pub struct ReadAhead<'a, R, O> {
     inner: R,
     cache: &'a RefCell<DigestCache>,
     observer: &'a O,
     room: RefMut<'a, AheadRoom>,
-    /// How many of the bytes in the room may be given,
+    /// How many of the bytes in the room may be given.
     ready: usize,
-    /// which messages among them carry a whole block; those that were given stay noted.
+    /// Which messages among these bytes carry a whole block. Those that were given stay noted, which does no harm.
     blocks: Blocks,
-    /// How many bytes are to come of a message that is given as it comes; while some are, all in the room may be given.
+    /// How many bytes are still to come of a message that is given as it comes. While there are some, all bytes in
+    /// the room may be given.
     owed: usize,
-    /// What the bytes that are to come are.
+    /// What the bytes are that are still to come.
     rest: Rest,
 }
 
@@ -63,11 +62,12 @@ impl<'a, R, O> Model for ReadAhead<'a, R, O> {
     } };
 
     ghost invariant = { λ r.
-        IsOrderly (ref_mut_value r.room) r.ready × HasLong (ref_mut_value r.room) r.ready r.blocks };
+        IsOrderly (ref_mut_value r.room) r.ready × HasLong (ref_mut_value r.room) r.ready
+        r.blocks };
 }
 
 impl<'a, R: Drop, O> ReadAhead<'a, R, O> {
-    /// A reader at a connection's beginning. What is in the room is forgotten. It takes no memory.
+    /// A reader at the beginning of a connection. What lies in `room` is forgotten. It takes no memory.
     pub fn new(
         inner: R,
         cache: &'a RefCell<DigestCache>,
@@ -99,7 +99,7 @@ impl<'a, R, O> ReadAhead<'a, R, O> {
         self.ready > 0
     }
 
-    /// Gives the first of the bytes that may be given, as many as there is room for, and says how many.
+    /// Gives the first of the bytes that may be given, as many as the buffer has room for; gives how many they are.
     fn give(&mut self, buffer: &mut [u8]) -> usize
         ensures given { IsGiven self.old result buffer.new self.new }
         ensures held { HoldsBlockAlone self.new }
@@ -109,9 +109,9 @@ impl<'a, R, O> ReadAhead<'a, R, O> {
         count
     }
 
-    /// Gives the first message, where it is known to be as long as a piece with a whole block: as many of
-    /// its bytes as there is room for, and says how many; the others take the place of what is in another
-    /// room. Else nothing is done.
+    /// Gives the first message, where that is known to be as long as a piece with a whole block: as many of its bytes
+    /// as the buffer has room for, and gives how many they are. The rest of the message replaces what is in the room
+    /// `other`. Where the first message is none such, nothing is done, and the answer is 0.
     pub(crate) fn give_long(&mut self, buffer: &mut [u8], other: &mut FrameRoom) -> usize
         requires { 0 < length buffer.old }
         ensures given { 0 < result
@@ -130,8 +130,8 @@ impl<'a, R, O> ReadAhead<'a, R, O> {
 }
 
 impl<'a, R: Read, O: Observer> ReadAhead<'a, R, O> {
-    /// Reads once, and looks what may be given now: how many bytes came, none at the end. What came is told, and
-    /// the blocks in it are digested. Errors: those of the inner reader.
+    /// Reads once, and finds what may be given now. The observer is told what came, and blocks in it are digested.
+    /// Gives how many bytes came: 0 at the end. Errors: those of the inner reader.
     fn refill(&mut self) -> io::Result<usize>
         requires { self.old.ready ≡ 0 }
         ensures refilled { IfOk result (λ count. IsRefilled R.remaining self.old count self.new) }
@@ -168,13 +168,14 @@ impl<'a, R: Read, O: Observer> ReadAhead<'a, R, O> {
 impl<'a, R: Read, O: Observer> Read for ReadAhead<'a, R, O> {
     ghost remaining = { reader_remaining R.remaining };
 
-    /// Errors: those of the inner reader. After each of them, Interrupted too, the read may be made again,
-    /// and nothing is lost.
+    /// Errors: those of the inner reader. After any of them, `Interrupted` too, the read may be made again, and
+    /// nothing is lost.
     fn read(&mut self, buffer: &mut [u8]) -> io::Result<usize>
         ensures bound { ReadsAtMost result buffer.new }
         ensures bytes { ReadConsumes (reader_remaining R.remaining self.old)
             (reader_remaining R.remaining self.new) result buffer.new }
-        ensures given { IfOk result (λ count. IsRead R.remaining self.old count buffer.new self.new) }
+        ensures given { IfOk result
+            (λ count. IsRead R.remaining self.old count buffer.new self.new) }
         ensures kept { OnErr result (LosesNothing R.remaining self.old self.new) }
         ensures held { HoldsBlockAlone self.new }
     {
@@ -183,8 +184,8 @@ impl<'a, R: Read, O: Observer> Read for ReadAhead<'a, R, O> {
     }
 }
 
-/// Has the blocks of these messages digested, where there are enough of them. Where the cache is in use nothing
-/// is done.
+/// Has the blocks of these messages digested, where there are enough of them. While the cache is in use, nothing is
+/// done.
 fn digest_ahead(cache: &RefCell<DigestCache>, waiting: &[u8], blocks: &Blocks) {
     if let Ok(mut guard) = cache.try_borrow_mut() {
         blocks.fill(&mut *guard, waiting);

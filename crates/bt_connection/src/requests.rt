@@ -1,5 +1,5 @@
-//! Requests that are sent together, right before their connection is read: a peer that gets several at once
-//! answers them without being woken for each.
+//! Requests that are sent together, right before the connection is read next: a peer that gets several requests at
+//! once answers them without being woken for each.
 ghost use Rattle.std.specs.Prelude.{◌≡◌, ◌≤◌, ℕ, List, [], ◌++◌, length, take, IfOk, OnOk};
 ghost use Rattle.std.specs.Bool.{OnTrue, OnFalse};
 ghost use Rattle.std.specs.Io.{ReadsAtMost, WritesAtMost};
@@ -17,8 +17,8 @@ use std::marker::Model;
 /// How many bytes there is room for: 64 requests, four times as many as an engine asks one peer for.
 const ROOM_LEN: usize = 64 * REQUEST_LEN;
 
-/// Requests that were written and are not sent yet: whole ones, and nothing else. So whoever borrows them
-/// knows that they are, though no clause knows what lies in a cell.
+/// Requests that were written and are not sent yet: whole requests, and nothing else. The type says so, so whoever
+/// borrows them knows it, though no clause knows what lies in a cell.
 #[derive(Drop)]
 pub struct Requests {
     bytes: Vec<u8>,
@@ -36,7 +36,7 @@ impl Model for Requests {
 }
 
 impl Requests {
-    /// No requests yet. All the memory that is ever taken for them is taken here. Errors: out of memory.
+    /// No requests yet. All the memory that they ever take is taken here. Errors: out of memory.
     pub fn new(alloc: Global) -> Result<Self, AllocError>
         ensures { IfOk result (λ requests. requests ≡ []) }
     {
@@ -45,8 +45,8 @@ impl Requests {
         })
     }
 
-    /// Takes bytes after those that are held already, where they are requests and nothing else, and there is
-    /// room. Says whether it did.
+    /// Holds bytes back, behind those that are held already, where they are requests and nothing else, and there is
+    /// room for them. Gives whether it did.
     fn hold(&mut self, bytes: &[u8]) -> bool
         ensures held { OnTrue result (self.new ≡ self.old ++ bytes.now) }
         ensures requests { OnTrue result (AreRequests bytes.now) }
@@ -58,7 +58,7 @@ impl Requests {
         self.bytes.extend_from_slice(bytes).is_ok()
     }
 
-    /// Sends them all. None is held then, whatever came of it. Errors: those of the writer.
+    /// Sends all requests that are held. None is held then, also after an error. Errors: those of the writer.
     fn send<W: Write>(&mut self, to: &mut W) -> io::Result<()>
         ensures sent { OnOk result (Appends (W.contents to.old) (W.contents to.new) self.old) }
         ensures requests { AreRequests self.old }
@@ -91,7 +91,7 @@ fn begins_request(bytes: &[u8]) -> bool
     read_request(&bytes[..REQUEST_LEN]).is_some()
 }
 
-/// Whether these bytes are requests, one after the other, and nothing else.
+/// Whether these bytes are whole requests, one after the other, and nothing else.
 fn are_requests(bytes: &[u8]) -> bool
     ensures { OnTrue result (AreRequests bytes.now) }
 {
@@ -105,8 +105,8 @@ fn are_requests(bytes: &[u8]) -> bool
     true
 }
 
-/// Holds bytes back as `hold` does. Where the requests are in use, which no call of this crate brings about,
-/// it does not.
+/// Holds bytes back as `hold` does. While the requests are in use, which no call of this crate brings about, nothing
+/// is held.
 fn hold_shared(requests: Lent<'_, Requests>, bytes: &[u8]) -> bool
     ensures { OnTrue result (AreRequests bytes.now) }
 {
@@ -116,7 +116,7 @@ fn hold_shared(requests: Lent<'_, Requests>, bytes: &[u8]) -> bool
     }
 }
 
-/// Sends what is held. Errors: those of the writer; the requests are in use.
+/// Sends all requests that are held. Errors: those of the writer; the requests are in use.
 fn send_shared<W: Write>(requests: Lent<'_, Requests>, to: &mut W) -> io::Result<()>
     ensures { OnOk result (SendsRequests (W.contents to.old) (W.contents to.new)) }
 {
@@ -125,8 +125,8 @@ fn send_shared<W: Write>(requests: Lent<'_, Requests>, to: &mut W) -> io::Result
     requests.send(to)
 }
 
-/// A writer that holds requests back, and sends all that is held before anything else that is written. A
-/// reader of the same connection sends them, too.
+/// A writer that holds requests back. It sends all that are held before it writes anything else. The reader of the
+/// same connection sends them too.
 #[derive(Drop)]
 pub struct HoldingWriter<'a, W> {
     inner: W,
@@ -140,7 +140,7 @@ impl<'a, W> Model for HoldingWriter<'a, W> {
 }
 
 impl<'a, W> HoldingWriter<'a, W> {
-    /// A writer to `inner` that holds back the requests that are written to it, in `requests`.
+    /// A writer to `inner`, which holds back in `requests` the requests that are written to it.
     pub fn new(inner: W, requests: Lent<'a, Requests>) -> Self
         ensures { result ≡ inner }
     {
@@ -154,12 +154,13 @@ impl<'a, W: Write> Write for HoldingWriter<'a, W> {
 
     ghost contents = { λ _. None };
 
-    /// Errors: those of the inner writer. What was held is lost where it can't be sent, and the connection is
+    /// Errors: those of the inner writer. Requests that were held and can't be sent are lost, and the connection is
     /// to be closed.
     fn write(&mut self, bytes: &[u8]) -> io::Result<usize>
         ensures bound { WritesAtMost result bytes.now }
         ensures bytes { WriteAppends None None result bytes.now }
-        ensures written { IfOk result (λ len. IsHeldOrWritten W.contents self.old bytes.now len self.new) }
+        ensures written { IfOk result (λ len. IsHeldOrWritten W.contents self.old bytes.now len
+            self.new) }
     {
         if hold_shared(self.requests, bytes) {
             return Ok(bytes.len());
@@ -176,7 +177,7 @@ impl<'a, W: Write> Write for HoldingWriter<'a, W> {
     }
 }
 
-/// A connection that is read once the requests that are held are sent.
+/// The reader of a connection. Before it reads, it sends the requests that are held.
 #[derive(Drop)]
 pub struct SendingReader<'a, S> {
     inner: S,
@@ -204,7 +205,7 @@ impl<'a, S: Read + Write> Read for SendingReader<'a, S> {
 
     ghost remaining = { λ _. None };
 
-    /// Errors: those of the connection, also where the requests can't be sent; then they are lost, and the
+    /// Errors: those of the connection, also where the requests can't be sent: then these are lost, and the
     /// connection is to be closed.
     fn read(&mut self, buffer: &mut [u8]) -> io::Result<usize>
         ensures bound { ReadsAtMost result buffer.new }

@@ -8,11 +8,12 @@ use std::alloc::{AllocError, Global};
 use std::io::{self, Read};
 use std::marker::Model;
 
-/// Room for `LEN` bytes, and those that are in it. A reader or a writer may borrow it for as long as it is there.
+/// Room for `LEN` bytes, and the bytes that are in it. A reader or a writer may borrow it for as long as the
+/// connection is there.
 #[derive(Drop)]
 pub struct Room<const LEN: usize> {
     bytes: Vec<u8>,
-    /// The bytes from `start` to `end` are in it, so none is moved where some are given.
+    /// The bytes in the room are those from `start` to `end`: so giving some of them moves none.
     start: usize,
     end: usize,
 }
@@ -40,7 +41,7 @@ impl<const LEN: usize> Room<LEN> {
         })
     }
 
-    /// Forgets the bytes.
+    /// Forgets the bytes in it.
     pub(crate) fn clear(&mut self)
         ensures { self.new ≡ [] }
     {
@@ -48,7 +49,7 @@ impl<const LEN: usize> Room<LEN> {
         self.end = 0;
     }
 
-    /// The bytes, lent.
+    /// The bytes in it, lent.
     pub fn as_slice(&self) -> &[u8]
         ensures value { result.now ≡ self.now }
         ensures few { length self.now ≤ LEN }
@@ -56,13 +57,14 @@ impl<const LEN: usize> Room<LEN> {
         &self.bytes[self.start..self.end]
     }
 
-    /// Reads once, at most `most` bytes, and says how many came. Errors: those of the reader.
+    /// Reads once, at most `most` bytes, behind those in it; gives how many came. Errors: those of the reader.
     pub fn read_from<R: Read>(&mut self, from: &mut R, most: usize) -> io::Result<usize>
         requires { length self.old + most ≤ LEN }
         ensures came { IfOk result (λ count.
             IsTakenIn (R.remaining from.old) (R.remaining from.new) self.old count self.new) }
         ensures few { IfOk result (λ count. count ≤ most) }
-        ensures ended { IfOk result (λ count. count ≡ 0 → 0 < most → IsAtEnd (R.remaining from.new)) }
+        ensures ended { IfOk result (λ count. count ≡ 0 → 0 < most → IsAtEnd
+            (R.remaining from.new)) }
         ensures kept { OnErr result (Keeps (R.remaining from.old) (R.remaining from.new)) }
         ensures same { OnErr result (self.new ≡ self.old) }
     {
@@ -75,7 +77,7 @@ impl<const LEN: usize> Room<LEN> {
         Ok(count)
     }
 
-    /// Writes these bytes over those from `at` on.
+    /// Writes `part` over the bytes in the room from the place `at` on.
     pub fn put(&mut self, at: usize, part: &[u8])
         requires { at + length part.now ≤ length self.old }
         ensures { self.new ≡ take at self.old ++ part.now ++ drop (at + length part.now) self.old }
@@ -83,7 +85,7 @@ impl<const LEN: usize> Room<LEN> {
         put_over(&mut self.bytes[self.start..self.end], at, part);
     }
 
-    /// Fills the room with zeros after the bytes.
+    /// Fills the room up with zeros, behind the bytes in it.
     pub fn fill(&mut self)
         ensures { self.new ≡ self.old ++ replicate (LEN - length self.old) 0 }
     {
@@ -94,7 +96,7 @@ impl<const LEN: usize> Room<LEN> {
         self.end = LEN;
     }
 
-    /// Gives the first of the bytes, at most `most`, as many as the buffer has room for, and says how many.
+    /// Gives the first of the bytes, `most` at most, as many as the buffer has room for; gives how many they are.
     pub fn give(&mut self, most: usize, buffer: &mut [u8]) -> usize
         requires { most ≤ length self.old }
         ensures count { result ≡ min most (length buffer.old) }
@@ -107,8 +109,8 @@ impl<const LEN: usize> Room<LEN> {
         count
     }
 
-    /// Gives the first `len` of the bytes: as many as the buffer has room for, and says how many; the others
-    /// take the place of what is in another room.
+    /// Gives the first `len` of the bytes. As many as the buffer has room for go into it, and it gives how many they
+    /// are; the others replace what is in the room `other`.
     pub fn give_to<const OTHER: usize>(
         &mut self,
         len: usize,
@@ -129,7 +131,7 @@ impl<const LEN: usize> Room<LEN> {
         count
     }
 
-    /// Has these bytes in it, and no others.
+    /// Replaces the bytes in the room by `part`.
     fn hold(&mut self, part: &[u8])
         requires { length part.now ≤ LEN }
         ensures { self.new ≡ part.now }
@@ -170,7 +172,7 @@ fn move_to_front(bytes: &mut Vec<u8>, start: usize, end: usize)
     }
 }
 
-/// Reads once into at most `most` bytes from `held` on, and says how many came. Those before stay.
+/// Reads once into at most `most` bytes behind the first `held`, which stay; gives how many came.
 fn read_behind<R: Read>(
     from: &mut R,
     bytes: &mut [u8],
@@ -189,7 +191,7 @@ fn read_behind<R: Read>(
     from.read(&mut bytes[held..held + most])
 }
 
-/// Writes a part over the bytes from `at` on.
+/// Writes `part` over the bytes from the place `at` on.
 fn put_over(bytes: &mut [u8], at: usize, part: &[u8])
     requires { at + length part.now ≤ length bytes.old }
     ensures { bytes.new ≡ take at bytes.old ++ part.now ++ drop (at + length part.now) bytes.old }
@@ -197,7 +199,7 @@ fn put_over(bytes: &mut [u8], at: usize, part: &[u8])
     bytes[at..at + part.len()].copy_from_slice(part);
 }
 
-/// Puts zeros over the bytes from `held` on.
+/// Writes zeros over all bytes behind the first `held`.
 fn fill_behind(bytes: &mut [u8], held: usize)
     requires { held ≤ length bytes.old }
     ensures { bytes.new ≡ take held bytes.old ++ replicate (length bytes.old - held) 0 }

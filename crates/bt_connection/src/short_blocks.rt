@@ -9,7 +9,8 @@ use bt_wire::Ask;
 use std::alloc::{AllocError, Global};
 use std::marker::Model;
 
-/// The short last blocks of a torrent, in the order of their pieces: a file has one at most, so has a piece.
+/// The short last blocks of a torrent's files, in the order of their pieces. A file has one at most, and so has a
+/// piece.
 #[derive(Debug, Drop)]
 pub struct ShortBlocks {
     blocks: Vec<Ask>,
@@ -28,7 +29,7 @@ impl Model for ShortBlocks {
 }
 
 impl ShortBlocks {
-    /// The short blocks of a torrent's files: at most 65,536. Errors: out of memory.
+    /// Finds the short last blocks of a torrent's files: at most 65,536. Errors: out of memory.
     pub fn new(alloc: Global, torrent: &Torrent) -> Result<Self, AllocError>
         ensures of_torrent { IfOk result (λ blocks. blocks ≡ short_blocks_of torrent.now) }
         ensures few { IfOk result (λ blocks. length blocks ≤ max_file_count) }
@@ -49,7 +50,7 @@ impl ShortBlocks {
         Ok(ShortBlocks { blocks })
     }
 
-    /// The short block that begins at this byte of the piece; None where none does.
+    /// The short block that begins at the byte `begin` of the piece `piece`. None where none does.
     pub fn at(&self, piece: u32, begin: u32) -> Option<Ask>
         ensures some { IfSome result (Contains self.now) }
         ensures piece { IfSome result (λ ask. ask.piece ≡ piece) }

@@ -1,4 +1,4 @@
-//! Bytes between a peer and an engine, in any parts.
+//! Bytes on their way between a peer and its engine, in whatever parts they come.
 ghost use Rattle.std.specs.Prelude.{◌≡◌, ◌≢◌, ◌<◌, ◌≤◌, [], ◌++◌, min, length, take, IfOk, OnOk, OnErr};
 ghost use Rattle.std.specs.Bool.{OnTrue, OnFalse};
 ghost use Rattle.std.specs.Io.KnownBytes.{Appends, Keeps};
@@ -16,10 +16,10 @@ use std::cell::RefMut;
 use std::io::{self, Read, Write};
 use std::marker::Model;
 
-/// How many bytes of a direction there is room for (`frame_room_length`): those of a piece with a whole block.
+/// How many bytes of one direction there is room for (`frame_room_length`): those of a piece with a whole block.
 const ROOM_LEN: usize = BLOCK_MESSAGE_LEN;
 
-/// Room for what has come of one direction of a connection, and is not given on yet.
+/// Room for what has come in one direction of a connection, and is not given on yet.
 pub type FrameRoom = Room<ROOM_LEN>;
 
 /// Where bytes come from.
@@ -31,16 +31,17 @@ pub enum Side {
     Engine,
 }
 
-/// One direction of a connection. It shares what is remembered of the peer with the other.
+/// One direction of a connection. Both directions share what is remembered of the peer.
 #[derive(Drop)]
 pub(crate) struct Direction<'a> {
     pub(crate) side: Side,
     pub(crate) blocks: &'a ShortBlocks,
     pub(crate) padding: Lent<'a, Padding>,
     pub(crate) room: RefMut<'a, FrameRoom>,
-    /// How many of the bytes in the room are to be given on. Those after them came of a frame that is not whole.
+    /// How many of the bytes in the room are to be given on. The bytes behind these came of a frame that is not
+    /// whole.
     pub(crate) ready: usize,
-    /// How many bytes still pass as they come.
+    /// How many of the next bytes pass as they come.
     pub(crate) passing: usize,
 }
 
@@ -51,7 +52,8 @@ impl<'a> Model for Direction<'a> {
 
     ghost Value = { DirectionState };
 
-    ghost view = { λ d. direction_state d.side d.blocks.now d.passing (ref_mut_value d.room) d.ready };
+    ghost view = { λ d. direction_state d.side d.blocks.now d.passing
+        (ref_mut_value d.room) d.ready };
 
     ghost invariant = { λ d. IsOrderly d.passing (ref_mut_value d.room) d.ready };
 }
@@ -65,7 +67,7 @@ impl<'a> Direction<'a> {
         self.ready > 0
     }
 
-    /// Whether a message of the peer is to come next, and none of another waits.
+    /// Whether the next byte that comes from the peer is the first of a message, and nothing waits of the one before.
     pub(crate) fn is_between(&self) -> bool
         ensures { OnTrue result (IsBetween self.now) }
     {
@@ -75,8 +77,9 @@ impl<'a> Direction<'a> {
             && self.room.as_slice().is_empty()
     }
 
-    /// Lets a message pass that is longer than a request, where the reader knows that one comes next: gives
-    /// as many of its bytes as there is room for, and says how many; the others wait. Else nothing is done.
+    /// Lets a message pass that is longer than a request, where the reader knows that one comes next. As many of its
+    /// bytes as the buffer has room for go into it, and it gives how many they are; the others wait. Where no such
+    /// message is known to come, nothing is done, and the answer is 0.
     pub(crate) fn pass_long<R, O>(
         &mut self,
         from: &mut ReadAhead<'_, R, O>,
@@ -96,8 +99,9 @@ impl<'a> Direction<'a> {
         count
     }
 
-    /// Reads once, of what passes or is missing of a frame, and says how many bytes came; what is given on waits then.
-    /// Errors: those of the reader; what is remembered is in use, which no call of this crate brings about.
+    /// Reads once: bytes that pass, or bytes that are missing of a frame. What is to be given on waits then. Gives
+    /// how many bytes came. Errors: those of the reader; what is remembered is in use, which no call of this crate
+    /// brings about.
     pub(crate) fn collect<R: Read>(&mut self, from: &mut R) -> io::Result<usize>
         requires { self.old.waiting ≡ [] }
         ensures came { IfOk result (λ count.
@@ -118,7 +122,7 @@ impl<'a> Direction<'a> {
         Ok(count)
     }
 
-    /// How many bytes are taken next at most: of those that pass, or what is missing of a frame.
+    /// How many bytes the next read takes at most: bytes that pass, or those that are missing of a frame.
     fn wanted(&self) -> usize
         requires { self.now.waiting ≡ [] }
         ensures { IsWanted self.now result }
@@ -130,7 +134,7 @@ impl<'a> Direction<'a> {
         }
     }
 
-    /// Gives the first of the bytes that wait, as many as there is room for, and says how many.
+    /// Gives the first of the bytes that wait, as many as the buffer has room for; gives how many they are.
     pub(crate) fn give(&mut self, buffer: &mut [u8]) -> usize
         ensures count { result ≡ min (length self.old.waiting) (length buffer.old) }
         ensures given { self.old.waiting ≡ take result buffer.new ++ self.new.waiting }
@@ -141,9 +145,10 @@ impl<'a> Direction<'a> {
         count
     }
 
-    /// Writes all bytes that wait. None waits then, whatever came of it. Errors: those of the writer.
+    /// Writes all bytes that wait. None waits then, also after an error. Errors: those of the writer.
     pub(crate) fn send<W: Write>(&mut self, to: &mut W) -> io::Result<()>
-        ensures sent { OnOk result (Appends (W.contents to.old) (W.contents to.new) self.old.waiting) }
+        ensures sent { OnOk result (Appends (W.contents to.old)
+            (W.contents to.new) self.old.waiting) }
         ensures none { self.new ≡ record self.old { waiting = [] } }
     {
         let answer = to.write_all(&self.room.as_slice()[..self.ready]);
@@ -153,8 +158,8 @@ impl<'a> Direction<'a> {
     }
 }
 
-/// What comes of the bytes in a room, which end no later than with a frame. None: they wait. Else what is in the
-/// room then is given on, and as many bytes after it as the number says pass as they come.
+/// Decides on the bytes in a room, which end with the first frame in it, or before. None where they have to wait for
+/// more. Else what is in the room now is given on, and the answer is how many bytes behind it pass as they come.
 fn settle(
     side: Side,
     blocks: &ShortBlocks,

@@ -55,7 +55,8 @@ pub trait Disk {
         ensures counted { conduct.faults self.new ≡ count_after (conduct.faults self.old) result }
         ensures as_honest { conduct.honest self.old ↔ conduct.honest self.new }
         ensures answered { conduct.honest self.old
-            → IsAnswered (conduct.history self.old) (set_len_call len result) (conduct.history self.new) };
+            → IsAnswered (conduct.history self.old) (set_len_call len result)
+            (conduct.history self.new) };
 
     /// Makes sure of all that was written: from then on a crash leaves what a read gives.
     fn sync(&mut self) -> Result<(), DeviceFault>

@@ -96,7 +96,8 @@ impl<D: Disk + Drop> FaultDisk<D> {
     fn fails(&mut self) -> bool
         ensures next { result ≡ fails_next self.old }
         ensures fails { OnTrue result (self.new ≡ after_failure self.old) }
-        ensures passes { OnFalse result (self.new ≡ record self.old { calls = next_call self.old }) }
+        ensures passes { OnFalse result
+            (self.new ≡ record self.old { calls = next_call self.old }) }
     {
         self.calls = self.calls.saturating_add(1);
         let number = self.calls;
@@ -122,7 +123,8 @@ impl<D: Disk + Drop> Disk for FaultDisk<D> {
 
     fn len(&mut self) -> Result<u64, DeviceFault>
         // by its settings
-        ensures fails { OnTrue (fails_next self.old) (IsErr result × (self.new ≡ after_failure self.old)) }
+        ensures fails { OnTrue (fails_next self.old)
+            (IsErr result × (self.new ≡ after_failure self.old)) }
         ensures passes { OnFalse (fails_next self.old)
             (PassesOn D.conduct self.old (len_call result) self.new) }
 
@@ -142,7 +144,8 @@ impl<D: Disk + Drop> Disk for FaultDisk<D> {
 
     fn read_at(&mut self, at: u64, out: &mut [u8]) -> Result<usize, DeviceFault>
         // by its settings
-        ensures fails { OnTrue (fails_next self.old) (IsErr result × (self.new ≡ after_failure self.old)) }
+        ensures fails { OnTrue (fails_next self.old)
+            (IsErr result × (self.new ≡ after_failure self.old)) }
         ensures passes { OnFalse (fails_next self.old)
             (PassesRead D.conduct self.old at out.new result self.new) }
 
@@ -166,7 +169,8 @@ impl<D: Disk + Drop> Disk for FaultDisk<D> {
 
     fn write_at(&mut self, at: u64, bytes: &[u8]) -> Result<(), DeviceFault>
         // by its settings
-        ensures fails { OnTrue (fails_next self.old) (IsErr result × (self.new ≡ after_failure self.old)) }
+        ensures fails { OnTrue (fails_next self.old)
+            (IsErr result × (self.new ≡ after_failure self.old)) }
         ensures passes { OnFalse (fails_next self.old)
             (PassesOn D.conduct self.old (write_call at bytes.now result) self.new) }
 
@@ -187,7 +191,8 @@ impl<D: Disk + Drop> Disk for FaultDisk<D> {
 
     fn set_len(&mut self, len: u64) -> Result<(), DeviceFault>
         // by its settings
-        ensures fails { OnTrue (fails_next self.old) (IsErr result × (self.new ≡ after_failure self.old)) }
+        ensures fails { OnTrue (fails_next self.old)
+            (IsErr result × (self.new ≡ after_failure self.old)) }
         ensures passes { OnFalse (fails_next self.old)
             (PassesOn D.conduct self.old (set_len_call len result) self.new) }
 
@@ -207,7 +212,8 @@ impl<D: Disk + Drop> Disk for FaultDisk<D> {
 
     fn sync(&mut self) -> Result<(), DeviceFault>
         // by its settings
-        ensures fails { OnTrue (fails_next self.old) (IsErr result × (self.new ≡ after_failure self.old)) }
+        ensures fails { OnTrue (fails_next self.old)
+            (IsErr result × (self.new ≡ after_failure self.old)) }
         ensures passes { OnFalse (fails_next self.old)
             (PassesOn D.conduct self.old (sync_call result) self.new) }
 

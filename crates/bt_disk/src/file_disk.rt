@@ -115,7 +115,8 @@ impl<F: Read + Write + Seek + OpenFile + Drop> Disk for FileDisk<F> {
             at (length out.new) (take count out.new)) }
         ensures counted { self.new.failed ≡ count_after self.old.failed result }
         ensures as_honest { ⊥ ↔ ⊥ }
-        ensures answered { ⊥ → IsAnswered (new_history []) (read_call at out.new result) (new_history []) }
+        ensures answered { ⊥ → IsAnswered (new_history []) (read_call at out.new result)
+            (new_history []) }
     {
         match read_handle(&mut self.handle, at, out) {
             Ok(count) => Ok(count),
@@ -129,7 +130,8 @@ impl<F: Read + Write + Seek + OpenFile + Drop> Disk for FileDisk<F> {
         ensures access { self.new.access ≡ self.old.access }
         ensures counted { self.new.failed ≡ count_after self.old.failed result }
         ensures as_honest { ⊥ ↔ ⊥ }
-        ensures answered { ⊥ → IsAnswered (new_history []) (write_call at bytes.now result) (new_history []) }
+        ensures answered { ⊥ → IsAnswered (new_history []) (write_call at bytes.now result)
+            (new_history []) }
     {
         if let Handle::Writing(file) = &mut self.handle
             && write_file(file, at, bytes).is_ok()
@@ -144,7 +146,8 @@ impl<F: Read + Write + Seek + OpenFile + Drop> Disk for FileDisk<F> {
         ensures access { self.new.access ≡ self.old.access }
         ensures counted { self.new.failed ≡ count_after self.old.failed result }
         ensures as_honest { ⊥ ↔ ⊥ }
-        ensures answered { ⊥ → IsAnswered (new_history []) (set_len_call len result) (new_history []) }
+        ensures answered { ⊥ → IsAnswered (new_history []) (set_len_call len result)
+            (new_history []) }
     {
         if let Handle::Writing(file) = &self.handle
             && file.set_len(len).is_ok()

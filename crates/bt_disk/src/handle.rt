@@ -105,7 +105,8 @@ pub(crate) fn read_handle<F: Read + Seek>(
     ensures absent { access_of handle.old ≡ absent → result ≡ Ok 0 }
     ensures within { IfOk result (λ count. count ≤ length out.new) }
     ensures gives { access_of handle.old ≢ absent → IfOk result (λ count.
-        IsReadOfFile F.stream_position F.stream_bytes F.remaining at (length out.new) (take count out.new)) }
+        IsReadOfFile F.stream_position F.stream_bytes F.remaining at (length out.new)
+        (take count out.new)) }
 {
     match handle {
         Handle::Absent => Ok(0),

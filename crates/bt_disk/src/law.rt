@@ -55,7 +55,8 @@ pub fn calls_compose<D: Disk>()
 pub fn devices_keep_bytes<D: Disk>()
     ensures { (old new : D) (calls : List Call) (t i byte : ℕ) → D.conduct.honest old
         → HasCalls D.conduct old calls new → All (Spares i) calls
-        → IsKeptSince (D.conduct.history old) t i byte → IsKeptSince (D.conduct.history new) t i byte }
+        → IsKeptSince (D.conduct.history old) t i byte → IsKeptSince
+        (D.conduct.history new) t i byte }
 {}
 
 /// Of an honest device, where every image since a moment has at most `n` bytes, and no call goes further,

@@ -45,7 +45,11 @@ impl Model for Medium {
     } };
 
     ghost invariant = { λ m.
-        LeadsTo (record { first = first_of m.first m.bytes.items; calls = map call_of m.changes.items })
+        LeadsTo (record {
+          first = first_of m.first m.bytes.items;
+          calls = map call_of
+              m.changes.items;
+        })
         m.bytes.items m.ranges.items m.least };
 }
 
@@ -76,7 +80,10 @@ impl Medium {
     pub(crate) fn write(&mut self, at: u64, more: &[u8]) -> Result<(), AllocError>
         requires { 0 < length more.now }
         ensures ok { OnOk result
-            (self.new ≡ record self.old { calls = self.old.calls ++ bytes_written at more.now ∷ [] }) }
+            (self.new ≡ record self.old {
+              calls = self.old.calls
+                  ++ bytes_written at more.now ∷ [];
+            }) }
         ensures err { OnErr result (self.new ≡ self.old) }
     {
         keep_first(self.alloc, &mut self.first, &self.bytes)?;
@@ -103,7 +110,10 @@ impl Medium {
     }
 
     pub(crate) fn sync(&mut self) -> Result<(), AllocError>
-        ensures ok { OnOk result (self.new ≡ record self.old { calls = self.old.calls ++ sync_made ∷ [] }) }
+        ensures ok { OnOk result (self.new ≡ record self.old {
+          calls = self.old.calls
+              ++ sync_made ∷ [];
+        }) }
         ensures err { OnErr result (self.new ≡ self.old) }
     {
         self.changes.reserve(1)?;
@@ -180,14 +190,16 @@ fn resize(bytes: &mut Vec<u8>, len: usize) -> Result<(), AllocError>
 /// Puts bytes over others.
 fn overwrite(bytes: &mut [u8], start: usize, more: &[u8])
     requires { start + length more.now ≤ length bytes.old }
-    ensures { bytes.new ≡ take start bytes.old ++ more.now ++ drop (start + length more.now) bytes.old }
+    ensures { bytes.new ≡ take start bytes.old ++ more.now ++ drop
+        (start + length more.now) bytes.old }
 {
     bytes[start..start + more.len()].copy_from_slice(more);
 }
 
 /// Leaves what a loss leaves.
 fn lose(bytes: &mut [u8], ranges: &[(u64, u64)], least: u64, loss: Loss)
-    ensures { (greatest : ℕ) → IsLeftBy loss (state_of bytes.old ranges.now least greatest) bytes.new }
+    ensures { (greatest : ℕ) → IsLeftBy loss (state_of bytes.old ranges.now least greatest)
+        bytes.new }
 {
     match loss {
         Loss::Kept => {}
@@ -197,7 +209,8 @@ fn lose(bytes: &mut [u8], ranges: &[(u64, u64)], least: u64, loss: Loss)
 
 /// Fills with a byte what a crash may lose: the ranges, and all past the least length.
 fn fill_lost(bytes: &mut [u8], ranges: &[(u64, u64)], least: u64, byte: u8)
-    ensures { (greatest : ℕ) → IsFilled (state_of bytes.old ranges.now least greatest) byte bytes.new }
+    ensures { (greatest : ℕ) → IsFilled (state_of bytes.old ranges.now least greatest) byte
+        bytes.new }
 {
     fill(bytes, least, u64::MAX, byte);
     for range in ranges {
@@ -209,8 +222,10 @@ fn fill_lost(bytes: &mut [u8], ranges: &[(u64, u64)], least: u64, byte: u8)
 /// Fills with a byte what lies from `start` up to `end`, as far as the bytes go.
 fn fill(bytes: &mut [u8], start: u64, end: u64, byte: u8)
     ensures size { length bytes.new ≡ length bytes.old }
-    ensures inside { (i : ℕ) → i < length bytes.new → start ≤ i → i < end → slice_index bytes.new i ≡ byte }
-    ensures outside { (i : ℕ) → (i < start) ⊎ (end ≤ i) → slice_index bytes.new i ≡ slice_index bytes.old i }
+    ensures inside { (i : ℕ) → i < length bytes.new → start ≤ i → i < end
+        → slice_index bytes.new i ≡ byte }
+    ensures outside { (i : ℕ) → (i < start) ⊎ (end ≤ i) → slice_index bytes.new i
+        ≡ slice_index bytes.old i }
 {
     let end = end.min(bytes.len() as u64);
     let start = start.min(end);

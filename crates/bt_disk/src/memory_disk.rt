@@ -48,7 +48,8 @@ impl MemoryDisk {
     /// The bytes that a crash now leaves, by its loss: those of the device that `after_crash` makes. The device
     /// stays as it is.
     pub fn image(&self, loss: Loss) -> Result<Vec<u8>, AllocError>
-        ensures left { IfOk result (λ image. IsLeftBy loss (history_of self.now.kept).now image.items) }
+        ensures left { IfOk result
+            (λ image. IsLeftBy loss (history_of self.now.kept).now image.items) }
         ensures image { IfOk result (λ image. IsImage (history_of self.now.kept).now image.items) }
     {
         self.medium.image(loss)
@@ -96,7 +97,8 @@ impl Disk for MemoryDisk {
         ensures counted { self.new.failed ≡ count_after self.old.failed result }
         ensures as_honest { ⊤ ↔ ⊤ }
         ensures answered { ⊤
-            → IsAnswered (history_of self.old.kept) (read_call at out.new result) (history_of self.new.kept) }
+            → IsAnswered (history_of self.old.kept) (read_call at out.new result)
+            (history_of self.new.kept) }
     {
         let rest = bytes_from(self.medium.bytes(), at);
         let count = rest.len().min(out.len());
@@ -127,7 +129,8 @@ impl Disk for MemoryDisk {
         ensures counted { self.new.failed ≡ count_after self.old.failed result }
         ensures as_honest { ⊤ ↔ ⊤ }
         ensures answered { ⊤
-            → IsAnswered (history_of self.old.kept) (set_len_call len result) (history_of self.new.kept) }
+            → IsAnswered (history_of self.old.kept) (set_len_call len result)
+            (history_of self.new.kept) }
     {
         match self.medium.set_len(len) {
             Ok(()) => Ok(()),

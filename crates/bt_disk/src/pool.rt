@@ -72,7 +72,8 @@ impl<R: DeviceFiles + Drop> HandlePool<R> {
         ensures path { IfOk result (λ disk. disk.path ≡ string_bytes path) }
         ensures one_more { IfOk result (λ _. self.new.made ≡ self.old.made + 1) }
         ensures no_more { IfErr result (λ _. self.new ≡ self.old) }
-        ensures fault { OnErr result (IsNotMade R.refuses R.is_shared_out (string_bytes path) self.old.made) }
+        ensures fault { OnErr result (IsNotMade R.refuses R.is_shared_out
+            (string_bytes path) self.old.made) }
     {
         make_room(&self.shared);
         let Some(opened) = self.shared.rt.open_to_read(path.as_str())? else {
@@ -95,7 +96,8 @@ impl<R: DeviceFiles + Drop> HandlePool<R> {
         ensures path { IfOk result (λ disk. disk.path ≡ string_bytes path) }
         ensures one_more { IfOk result (λ _. self.new.made ≡ self.old.made + 1) }
         ensures no_more { IfErr result (λ _. self.new ≡ self.old) }
-        ensures fault { OnErr result (IsNotMade R.refuses R.is_shared_out (string_bytes path) self.old.made) }
+        ensures fault { OnErr result (IsNotMade R.refuses R.is_shared_out
+            (string_bytes path) self.old.made) }
     {
         make_room(&self.shared);
         let opened = self.shared.rt.open_to_write(path.as_str())?;
@@ -266,7 +268,8 @@ impl<R: Files + Drop> PooledDisk<R> {
     }
 
     fn write_file(&self, at: u64, bytes: &[u8]) -> Result<(), DeviceFault>
-        ensures { OnOk result (IsWrittenToFile R.File.stream_position R.File.contents at bytes.now) }
+        ensures { OnOk result (IsWrittenToFile R.File.stream_position R.File.contents at
+            bytes.now) }
     {
         let mut handle = self.handle()?;
         handle.has_written = true;
@@ -351,7 +354,8 @@ impl<R: Files + Drop> Disk for PooledDisk<R> {
             at (length out.new) (take count out.new)) }
         ensures counted { self.new.failed ≡ count_after self.old.failed result }
         ensures as_honest { ⊥ ↔ ⊥ }
-        ensures answered { ⊥ → IsAnswered (new_history []) (read_call at out.new result) (new_history []) }
+        ensures answered { ⊥ → IsAnswered (new_history []) (read_call at out.new result)
+            (new_history []) }
     {
         if self.usage == Use::Absent {
             return Ok(0);
@@ -364,7 +368,8 @@ impl<R: Files + Drop> Disk for PooledDisk<R> {
 
     fn write_at(&mut self, at: u64, bytes: &[u8]) -> Result<(), DeviceFault>
         ensures refused { self.old.access ≢ writing → IsErr result }
-        ensures written { OnOk result (IsWrittenToFile R.File.stream_position R.File.contents at bytes.now) }
+        ensures written { OnOk result (IsWrittenToFile R.File.stream_position R.File.contents at
+            bytes.now) }
         ensures number { self.new.number ≡ self.old.number }
         ensures path { self.new.path ≡ self.old.path }
         ensures access { self.new.access ≡ self.old.access }
@@ -373,7 +378,8 @@ impl<R: Files + Drop> Disk for PooledDisk<R> {
         ensures is_written { self.new.is_written ≡ true }
         ensures counted { self.new.failed ≡ count_after self.old.failed result }
         ensures as_honest { ⊥ ↔ ⊥ }
-        ensures answered { ⊥ → IsAnswered (new_history []) (write_call at bytes.now result) (new_history []) }
+        ensures answered { ⊥ → IsAnswered (new_history []) (write_call at bytes.now result)
+            (new_history []) }
     {
         self.is_synced = false;
         self.is_written = true;
@@ -393,7 +399,8 @@ impl<R: Files + Drop> Disk for PooledDisk<R> {
         ensures is_written { self.new.is_written ≡ true }
         ensures counted { self.new.failed ≡ count_after self.old.failed result }
         ensures as_honest { ⊥ ↔ ⊥ }
-        ensures answered { ⊥ → IsAnswered (new_history []) (set_len_call len result) (new_history []) }
+        ensures answered { ⊥ → IsAnswered (new_history []) (set_len_call len result)
+            (new_history []) }
     {
         self.is_synced = false;
         self.is_written = true;

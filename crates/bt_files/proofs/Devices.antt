@@ -1,5 +1,5 @@
 -- Lemmas on the devices of a torrent's files, file by file.
-use Rattle.std.proofs.Common.{◌≡◌, ◌≢◌, ℕ, suc, ◌+◌, ◌<◌, true, false, Bool, List, [], ◌∷◌, ◌++◌, length, map, take, get_or, nat_lt, Option, Some, None, IfSome, IsSome, refl, sym, ap, subst, ◌∙◌, add-zero, append-nil, length-append, arith}
+use Rattle.std.proofs.Common.{◌≡◌, ◌≢◌, ℕ, suc, ◌+◌, ◌<◌, true, false, Bool, List, [], ◌∷◌, ◌++◌, length, map, take, get_or, nat_lt, Option, Some, None, refl, sym, ap, subst, ◌∙◌, add-zero, append-nil, length-append, arith}
 use Rattle.std.specs.Borrow.{Bor}
 use Rattle.std.specs.List.{AllZip, enumerate_from}
 use Rattle.std.proofs.lemmas.Bool.{lt-ltb}
@@ -96,13 +96,6 @@ files_more entries i entry lt at =
 
 zero_below : (n : ℕ) → n ≢ 0 → nat_lt 0 n ≡ true
 zero_below n some = lt-ltb 0 n (omega (arith, some))
-
--- the file of an entry that has a byte has the next device
-pub opened_some : (usage : FileUse) (dir : List ℕ) (file : File) (before after : ℕ) (found : Option DeviceView) → file.length ≢ 0
-    → after ≡ before + 1 → IsSome found → IfSome found (IsNewDevice usage after (path_below dir file.path))
-    → IsOpenedFor usage dir file before found after
-opened_some usage dir file before after None some next is new = let bad : false ≡ true = is in cc
-opened_some usage dir file before after (Some disk) some next is new = (some, next, new)
 
 -- what is known of the entries so far, the devices that they have and how many a pool made
 pub record AreOpened (usage : FileUse) (dir : List ℕ) (entries : List FileEntry) (count : ℕ) (disks : List DeviceView) (filled : List Bool) (total : ℕ)

@@ -1,6 +1,6 @@
 -- Lemmas on devices whose files the system tells apart.
-use Rattle.std.proofs.Common.{◌≡◌, List, [], get_or, Option, Some, None, IfSome, inl, inr, refl, sym, subst, ◌∙◌, arith}
-use Rattle.std.proofs.lemmas.List.Elements.{All-nil, All-push, All-weaker}
+use Rattle.std.proofs.Common.{◌≡◌, List, get_or, Option, Some, None, IfSome, inl, inr, refl, sym, subst, ◌∙◌}
+use Rattle.std.proofs.lemmas.List.Elements.{All-push, All-weaker}
 use Rattle.std.proofs.lemmas.List.Quantifiers.{all_pairs_push}
 use Rattle.bt_disk.specs.declared.opening.FileIdentity.{FileIdentity}
 use Rattle.bt_folder.specs.KnownFiles.{IsKnown}
@@ -9,14 +9,6 @@ use Rattle.bt_files.specs.DataFiles.{DeviceView}
 use Rattle.bt_files.specs.DataFilesSteps.{IsPushed}
 use Rattle.bt_files.specs.OpenFolder.{IsAdded}
 use Rattle.bt_files.specs.OwnFiles.{AreApart, AreKnown, AreOneFile, identity_of}
-
--- ---- at first there is no device
-
-pub known_none : (known : KnownFiles) (disks : List DeviceView) → disks ≡ [] → AreKnown known disks
-known_none known disks none = subst (AreKnown known) (sym none) (All-nil (λ disk. IfSome (identity_of disk) (IsKnown known)))
-
-pub apart_none : (disks : List DeviceView) → disks ≡ [] → AreApart disks
-apart_none disks none = subst AreApart (sym none) (λ i j d lt within. absurd (omega arith))
 
 -- ---- one file more
 

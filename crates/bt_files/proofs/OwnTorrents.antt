@@ -1,5 +1,5 @@
 -- That two paths are one file is told where it is so, or where one of them is that of the torrent itself.
-use Rattle.std.proofs.Common.{◌≡◌, ◌≢◌, ◌⊎◌, inl, inr, ℕ, Bool, List, Option, Some, None, sym, ◌∙◌}
+use Rattle.std.proofs.Common.{◌≡◌, ◌≢◌, inl, inr, ℕ, Bool, List, Option, Some, None, sym, ◌∙◌}
 use Rattle.std.specs.Borrow.{Bor}
 use Rattle.bt_folder.specs.Lookup.{Tells}
 use Rattle.bt_folder.specs.declared.known_files.KnownFiles.{KnownFiles}

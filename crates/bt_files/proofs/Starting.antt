@@ -1,12 +1,11 @@
 -- What a start comes to, with a log or without.
-use Rattle.std.proofs.Common.{[], ◌≡◌, ℕ, List, Option, Some, None, Ok, Err, length, ap, sym, subst, ◌∙◌}
+use Rattle.std.proofs.Common.{[], ◌≡◌, ℕ, List, Option, Some, None, Ok, ap, sym, subst, ◌∙◌}
 use Rattle.bt_disk.specs.Conduct.{Conduct}
 use Rattle.bt_meta.specs.Torrent.{Metainfo}
 use Rattle.bt_resume.specs.ResumeLog.{LogView}
-use Rattle.bt_machine.specs.declared.error.StartError.TheVariants.{OutOfMemory}
 use Rattle.bt_machine.specs.Opening.{BeginsOn, AnswersStart, starts, other_count, other_log, no_memory}
 use Rattle.bt_machine.specs.Opening.BeginsOn.{bare, with_log}
-use Rattle.bt_machine.specs.Start.{AreDevicesOf, device_count}
+use Rattle.bt_machine.specs.Start.{AreDevicesOf}
 use Rattle.bt_machine.specs.State.{EngineState, EngineView}
 use Rattle.bt_machine.proofs.Restarts.{recovered}
 
@@ -46,12 +45,3 @@ module _ {D : Type 0} (conduct : Conduct D) (dig : List ℕ → List ℕ) (torre
   started engine (other_count other back) ok = let is = back.is in absurd cc
   started engine (other_log l so_many some other back) ok = let is = back.is in absurd cc
   started engine (no_memory so_many own back) ok = let is = back.is in absurd cc
-
-  -- it is refused for want of memory alone, where the log is of the torrent
-  pub not_started : {answer : _} {refused : _} → AnswersStart conduct dig torrent given log answer → answer ≡ Err refused
-      → length given ≡ device_count torrent.files → ((l : LogView D) → log ≡ Some l → l.infohash ≡ torrent.infohash) → refused.cause ≡ OutOfMemory
-  not_started (starts first placed are begun is) err so_many own = absurd cc
-  not_started (other_count other back) err so_many own = absurd (other so_many)
-  not_started (other_log l count some other back) err so_many own = absurd (other (own l some))
-  not_started {refused = refused} (no_memory count of_torrent back) err so_many own =
-      let one : back.refused ≡ refused = (let is = back.is in cc) in subst (λ r. r.cause ≡ OutOfMemory) one back.same_cause

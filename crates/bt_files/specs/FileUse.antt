@@ -1,5 +1,5 @@
 -- How data files are used.
-use Rattle.std.specs.Prelude.{◌≡◌, ◌≢◌, ℕ, Bool, true, false, List, Option, Some, None}
+use Rattle.std.specs.Prelude.{◌≡◌, ◌≢◌, ℕ, Bool, true, false, List, Option, Some}
 use Rattle.std.specs.Borrow.{Bor}
 use Rattle.bt_disk.specs.FileDisk.{Access, writing}
 use Rattle.bt_files.specs.declared.file_use.FileUse.{FileUse}

@@ -50,8 +50,3 @@ pub record StopsAtWaiting {D : Type 0} (conduct : Conduct D)
   pub answer : Answer
   pub last : StepsTo conduct dig before (Adopt file) answer new
   pub cause : IsAdoptionFault answer fault
-
--- all were seen to, or one was not without a fault
-abbrev pub SeesToWaiting : {D : Type 0} → Conduct D → (List ℕ → List ℕ) → EngineView D → EngineView D → Type 0
-SeesToWaiting conduct dig old new =
-    TakesInAllWaiting conduct dig old new ⊎ ((fault : Fault) × StopsAtWaiting conduct dig old fault new)

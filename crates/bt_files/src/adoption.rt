@@ -1,4 +1,4 @@
-//! What the devices of an engine have already is taken in.
+//! Taking in what the files of an engine have already.
 ghost use Rattle.std.specs.Prelude.{[], ◌≡◌, ◌<◌, ◌↔◌, IsTrue, Some, true, length, slice_get, IfErr, MatchResult, OnOk};
 ghost use Rattle.bt_machine.specs.declared.event.Event.TheVariants.{Adopt};
 ghost use Rattle.bt_machine.specs.declared.event.Answer.{Answer};
@@ -11,9 +11,9 @@ use bt_disk::Disk;
 use bt_engine::{AdoptError, Engine};
 use bt_tree::NodeHash;
 
-/// Takes in, file after file, what the devices of those files have of which `filled` tells that bytes are there; of no
-/// other file is a device called. `filled` has an entry for each file. Errors: a read failed, or out of memory; the
-/// files before stay taken in.
+/// Takes in what the files of an engine have, one file after the other, where `filled` says that the file has bytes.
+/// The devices of the other files are not called. `filled` has an entry for each file. Errors: a read failed, or out
+/// of memory; the files before that one stay taken in.
 pub fn adopt_files<D: Disk + Drop, H: NodeHash>(
     engine: &mut Engine<D, H>,
     filled: &[bool],
@@ -38,14 +38,15 @@ pub fn adopt_files<D: Disk + Drop, H: NodeHash>(
     Ok(())
 }
 
-/// Whether bytes of a file are there.
+/// Whether a file has bytes.
 fn is_filled(filled: &[bool], file: u32) -> bool
     ensures { IsTrue result ↔ (slice_get filled.now file ≡ Some true) }
 {
     filled.get(file as usize) == Some(&true)
 }
 
-/// Takes in what the device of a file has.
+/// Takes in what one file has: reads its blocks, and marks those that are right. Errors: a read failed, or out of
+/// memory.
 pub(crate) fn adopt_file<D: Disk + Drop, H: NodeHash>(
     engine: &mut Engine<D, H>,
     file: u32,

@@ -30,16 +30,18 @@ use std::alloc::{AllocError, Global};
 use std::path::{Path, PathBuf};
 use std::rt::Files;
 
-/// The device of a data file: one of a pool, which is synced only where it was touched, is read ahead, may be closed to
-/// writes, rings where a write fails, and tells of its calls.
+/// The device of a data file. Its file handle is one of a pool. A sync reaches the file only where it was touched.
+/// Blocks are read ahead. Its seal may close it to writes. Where a write fails, it rings an alarm, and each of its
+/// calls is told to a watch.
 pub type DataDisk<'a, R, P> = Watched<
     'a,
     SealedDisk<'a, ReadAheadDisk<'a, GaplessDisk<TouchedDisk<'a, R, P>>>>,
     P,
 >;
 
-/// The devices of those files of a torrent that have a byte, in their order; and of each file of it, whether bytes of
-/// it are there. What the system tells of all these files is known, but for a read-only use.
+/// What comes of opening a torrent's files: the devices of those that are not empty, in the torrent's order; for each
+/// file whether it has bytes; and what the system tells of each, by which no two are one file (of files that are only
+/// read nothing is known).
 #[derive(Drop)]
 pub(crate) struct OpenFiles<D> {
     pub disks: Vec<D>,
@@ -59,7 +61,7 @@ impl<D: Drop> OpenFiles<D> {
         }
     }
 
-    /// Puts a file after those before.
+    /// Adds a file after the others.
     fn push(&mut self, file: OpenFile<D>) -> Result<(), AllocError>
         ensures disks { OnOk result (IsPushed self.old.disks.items file.disk self.new.disks.items) }
         ensures filled { OnOk result
@@ -70,8 +72,8 @@ impl<D: Drop> OpenFiles<D> {
     }
 }
 
-/// A file of a torrent that was opened: its device, which an empty one has not, what the system told of it, and whether
-/// bytes of it are there. Of an empty one there are none, whatever lies at its path.
+/// A file of a torrent that was opened: its device; what the system told of it; and whether it has bytes. A file that
+/// the torrent calls empty has no device, and counts as one without bytes, whatever lies at its path.
 #[derive(Drop)]
 struct OpenFile<D> {
     disk: Option<D>,
@@ -79,13 +81,15 @@ struct OpenFile<D> {
     is_filled: bool,
 }
 
-/// Opens the data files of some entries, in turn, and gives the devices of those that have a byte. They share a few
-/// handles, and what is read ahead, and tell of their calls; their bytes are to be read.
+/// Opens the files of these entries, one after the other, and gives the devices of those that are not empty. The
+/// devices share a pool of a few file handles and the cache of digests that are made ahead, and tell the watch of
+/// their calls.
 ///
-/// But for a read-only use, missing folders and files are made, also the files of empty entries, and are kept: the
-/// folders on the way to each file are synced that was made, or has no byte yet. A file that is there keeps its bytes;
-/// what is there and is no regular file is a device fault, and is not opened. Nor may two paths be one file, unless they
-/// are only read: by what the system tells of each as it is opened, and then by the names on the paths.
+/// For any use but a read-only one, folders and files that are missing are made, also the files of empty entries. So
+/// that none is lost, the folders on the way to a file are synced where the file was made now, or has no byte yet. A
+/// file that is there keeps its bytes. What is there and is no regular file is not opened, which is a device fault.
+/// No two paths may lead to one file: that is looked at by what the system tells of each file as it is opened, and
+/// once all are open by the names on the paths.
 pub(crate) fn open_devices<'a, R: Files + AllocGlobal + Clone + Drop + Lookup, P: Watch>(
     rt: &R,
     watch: &'a P,
@@ -113,7 +117,7 @@ pub(crate) fn open_devices<'a, R: Files + AllocGlobal + Clone + Drop + Lookup, P
     Ok(files)
 }
 
-/// Opens the data files of some entries by a new pool, and gives the devices of those that have a byte.
+/// Opens the files of these entries by a new pool of handles, and adds the devices of those that are not empty.
 fn push_devices<'a, R: Files + AllocGlobal + Clone + Drop + Lookup, P: Watch>(
     rt: &R,
     watch: &'a P,
@@ -127,7 +131,8 @@ fn push_devices<'a, R: Files + AllocGlobal + Clone + Drop + Lookup, P: Watch>(
     requires no_disk { files.old.disks.items ≡ [] }
     requires no_file { files.old.filled.items ≡ [] }
     ensures devices { OnOk result
-        (AreNewDevices context.entry.usage dir.now (map file_of entries.now) files.new.disks.items) }
+        (AreNewDevices context.entry.usage dir.now
+        (map file_of entries.now) files.new.disks.items) }
     ensures each { OnOk result (length files.new.filled.items ≡ length entries.now) }
     ensures filled { OnOk result (AreFilled (map file_of entries.now) files.new.filled.items) }
     ensures known { OnOk result
@@ -162,7 +167,7 @@ fn push_devices<'a, R: Files + AllocGlobal + Clone + Drop + Lookup, P: Watch>(
     Ok(())
 }
 
-/// Puts an item, if there is one, after others.
+/// Adds an item, if there is one, after the others.
 fn push_some<T: Drop>(items: &mut Vec<T>, item: Option<T>) -> Result<(), AllocError>
     ensures { OnOk result (IsPushed items.old.items item items.new.items) }
 {
@@ -175,8 +180,8 @@ fn push_some<T: Drop>(items: &mut Vec<T>, item: Option<T>) -> Result<(), AllocEr
     }
 }
 
-/// The file of an entry, which has no device where it is empty. It is made where it is missing, but for a read-only
-/// use.
+/// Opens the file of an entry. It is made where it is missing, but for a read-only use. An empty entry has no device.
+/// Errors: a device failed; out of memory.
 fn open_entry<'a, R: Files + AllocGlobal + Clone + Drop + Lookup, P: Watch>(
     rt: &R,
     watch: &'a P,
@@ -186,7 +191,8 @@ fn open_entry<'a, R: Files + AllocGlobal + Clone + Drop + Lookup, P: Watch>(
     entry: &FileEntry,
 ) -> Result<OpenFile<DataDisk<'a, R, P>>, Fault>
     ensures opened { IfOk result (λ file.
-        IsOpenedFor context.entry.usage dir.now (file_of entry.now) pool.old.made file.disk pool.new.made) }
+        IsOpenedFor context.entry.usage dir.now (file_of entry.now) pool.old.made file.disk
+        pool.new.made) }
     ensures empty { IfOk result (λ file. entry.now.length ≡ 0 → file.is_filled ≡ false) }
     ensures filled { IfOk result
         (λ file. entry.now.length ≢ 0 → file.is_filled ≡ nat_lt 0 file.opening.len) }
@@ -206,7 +212,8 @@ fn open_entry<'a, R: Files + AllocGlobal + Clone + Drop + Lookup, P: Watch>(
     open_device(rt, watch, context, pool, path)
 }
 
-/// The next device of a pool, of a file that is opened for a use, which is read ahead, and tells of its calls.
+/// Opens a file by a pool, and gives its device, which reads blocks ahead and tells the watch of its calls. Errors:
+/// the file can't be opened, which the watch is told with its name; out of memory.
 fn open_device<'a, R: Files + AllocGlobal + Clone + Drop + Lookup, P: Watch>(
     rt: &R,
     watch: &'a P,
@@ -240,7 +247,8 @@ fn open_device<'a, R: Files + AllocGlobal + Clone + Drop + Lookup, P: Watch>(
     }
 }
 
-/// The next file of a pool, opened for a use. What a seed without a log finds in it is none of what it has to keep.
+/// Opens a file by a pool, for a use. What a seed without a log finds in its files counts as synced: it has not to be
+/// kept.
 fn pooled<R: Files + Drop>(
     pool: &mut HandlePool<R>,
     usage: FileUse,
@@ -256,8 +264,9 @@ fn pooled<R: Files + Drop>(
     }
 }
 
-/// A file as a device that is read ahead, and is closed to writes: with its seal, or at once. By its use it is synced
-/// also where nothing was read or written.
+/// Puts a file below the layers of a device: a sync passes only where the file was touched, blocks are read ahead,
+/// and writes are refused once the seal is closed, or from the start for a read-only use. The use tells whether the
+/// file counts as touched when it is opened.
 fn device_of<'a, R: Files + AllocGlobal + Clone + Drop + Lookup, P: Watch>(
     context: DeviceContext<'a>,
     file: PooledDisk<R>,
@@ -277,7 +286,7 @@ fn device_of<'a, R: Files + AllocGlobal + Clone + Drop + Lookup, P: Watch>(
     }
 }
 
-/// A fault in opening a file, which is told by the file's name, if there is one.
+/// The fault of a file that could not be opened. The watch is told the file's name, if it is known.
 fn opening_fault<P: Watch>(watch: &P, name: Option<String>) -> Fault
     ensures { result ≡ device }
 {
@@ -287,8 +296,8 @@ fn opening_fault<P: Watch>(watch: &P, name: Option<String>) -> Fault
     Fault::Device
 }
 
-/// Opens a file that is to have no byte, and makes it where there is none, but for a read-only use. A fault is told
-/// of.
+/// Opens the file of an empty entry, and makes it where there is none, but for a read-only use. Errors: it can't be
+/// opened, of which the watch is told.
 fn open_empty<R: Files + AllocGlobal, P: Watch>(
     rt: &R,
     watch: &P,

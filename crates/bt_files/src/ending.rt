@@ -13,12 +13,11 @@ use bt_tree::NodeHash;
 use std::alloc::Global;
 use std::io::Write;
 
-/// Has all that was written put on the devices of an engine, and what waits for its log written to it, and then
-/// reports how far the files are. The answer is the status of the program: 0 where all files are complete, else 1.
-/// Where a device fails at the first, or the log is full, nothing is reported.
+/// Flushes an engine, as `finish` does, and then writes how far its files are. Gives the status of the program: 0
+/// where all files are complete, else 1. Where the flush is refused, nothing is written.
 ///
 /// Errors: `Device` where a device of the engine, or the writer, fails; `LogFull` where the log would get longer than
-/// any may; `OutOfMemory`.
+/// a log may be; `OutOfMemory`.
 pub fn conclude<D: Disk + Drop, H: NodeHash, W: Write>(
     alloc: Global,
     engine: &mut Engine<D, H>,

@@ -5,11 +5,11 @@ ghost use Rattle.bt_files.specs.FileUse.{is_read_only, is_touched_at_first, use_
 /// What the data files of a torrent are opened for.
 #[derive(Clone, Copy, Debug, PartialEq, Eq)]
 pub enum FileUse {
-    /// What is missing is fetched into the files.
+    /// What the files lack is fetched into them.
     Fetch,
-    /// The files are served, and what is missing may come from those who are served.
+    /// The files are served, and what they lack may come from the peers that are served.
     Seed,
-    /// The same, where a log tells what of the files counts.
+    /// The same as `Seed`, with a log that tells which blocks count.
     SeedByLog,
     /// The files are served, and never written.
     ReadOnly,
@@ -26,8 +26,8 @@ impl FileUse {
         }
     }
 
-    /// Whether a sync goes to a file also where it was neither read nor written since it was opened. A fetch, and a
-    /// seed with a log, read those blocks as they start that count then.
+    /// Whether a sync reaches a file even where the file was neither read nor written since it was opened. It need
+    /// not with `Fetch` and `SeedByLog`: these read, as they start, each block that counts then.
     pub(crate) fn is_touched_at_first(self) -> bool
         ensures { result ≡ is_touched_at_first self }
     {
@@ -37,7 +37,8 @@ impl FileUse {
         }
     }
 
-    /// What the files are opened for where the path of a log is given, or none.
+    /// What the files are opened for, given this use and the path of a log, or none: a seed with a log is a
+    /// `SeedByLog`.
     pub(crate) fn with_log(self, log: Option<&str>) -> FileUse
         ensures { result ≡ use_with self log.entry }
     {

@@ -10,21 +10,22 @@ use std::alloc::Global;
 use std::path::Path;
 use std::rt::Files;
 
-/// The folders on the way to a file below a folder, which is the first of them. A folder in which something is new is
-/// synced as the way leaves it, and with the first one those that its path leads through. In the order of a torrent the
-/// way enters and leaves each folder once.
+/// The folders on the way to a file: the first is the folder of the torrent's files, and each other lies in the one
+/// before it. The way goes from the folder of one file to that of the next. As it leaves a folder in which something
+/// is new, that folder is synced, and with the first folder those that its path leads through. In the order of a
+/// torrent the way enters and leaves each folder once.
 #[derive(Drop)]
 pub(crate) struct FolderTrail {
-    /// The names of those below the first one.
+    /// The names of the folders below the first one.
     names: Vec<String>,
-    /// Whether the way has begun: then the first one is there.
+    /// Whether the way has begun: then the first folder is there.
     has_begun: bool,
-    /// In how many of them, from the first one on, something may be new.
+    /// In how many of the folders, counted from the first one, something may be new.
     new_count: usize,
 }
 
 impl FolderTrail {
-    /// The way has not begun.
+    /// A way that has not begun.
     pub(crate) fn new(alloc: Global) -> Self {
         FolderTrail {
             names: Vec::new(alloc),
@@ -33,8 +34,8 @@ impl FolderTrail {
         }
     }
 
-    /// Goes on to the folder of a file, and makes it, and those above it, where they are missing. Errors: one can't be
-    /// made, or synced, which is told of; memory is refused.
+    /// Goes on to the folder of a file in `dir`. That folder, and those above it, are made where they are missing.
+    /// Errors: a folder can't be made or synced, of which the watch is told; memory is refused.
     pub(crate) fn go_to<R: Files + AllocGlobal, P: Watch>(
         &mut self,
         rt: &R,
@@ -57,15 +58,15 @@ impl FolderTrail {
         Ok(())
     }
 
-    /// Something is new in the folder that the way leads to. So may each folder on the way be: a run that was killed may
-    /// have made it, and not have synced the one above.
+    /// Notes that something is new in the folder that the way has come to. Each folder above it counts as new too: a
+    /// run that was killed may have made it, and not have synced the folder that it lies in.
     pub(crate) fn add_new(&mut self) {
         self.new_count = self.names.len().saturating_add(1);
     }
 
-    /// Leaves all folders. Where something is new in the first one, that may be new too, with those above it, as each on
-    /// the way may be: so those that its path leads through are synced. Errors: one can't be synced, which is told of;
-    /// memory is refused.
+    /// Leaves all folders. Where something is new in the first one, the folders that its path leads through are
+    /// synced too: the first folder itself, and each of them, may have been made and not synced. Errors: a folder
+    /// can't be synced, of which the watch is told; memory is refused.
     pub(crate) fn end<R: Files + AllocGlobal, P: Watch>(
         &mut self,
         rt: &R,
@@ -83,7 +84,7 @@ impl FolderTrail {
         Ok(())
     }
 
-    /// Makes the first folder, where the way has not begun.
+    /// Makes the first folder, where the way has not begun. Errors: it can't be made, of which the watch is told.
     fn begin<R: Files + AllocGlobal, P: Watch>(
         &mut self,
         rt: &R,
@@ -101,7 +102,7 @@ impl FolderTrail {
         Ok(())
     }
 
-    /// How many folders the way to some folders begins with as the last one did.
+    /// How many of these folders, from the first on, the way is in already.
     fn shared_len(&self, folders: &[&str]) -> usize {
         for (place, folder) in folders.iter().enumerate() {
             match self.names.get(place) {
@@ -112,7 +113,7 @@ impl FolderTrail {
         folders.len()
     }
 
-    /// Leaves the folders but for the `depth` ones below the first one.
+    /// Leaves all folders but the first one and `depth` below it.
     fn go_back<R: Files + AllocGlobal, P: Watch>(
         &mut self,
         rt: &R,
@@ -128,7 +129,7 @@ impl FolderTrail {
         Ok(())
     }
 
-    /// Goes into a folder, which is made where it is missing.
+    /// Goes into a folder, and makes it where it is missing.
     fn enter<R: Files + AllocGlobal, P: Watch>(
         &mut self,
         rt: &R,
@@ -166,7 +167,7 @@ impl FolderTrail {
     }
 }
 
-/// Makes a folder, in one that is there, and gives whether it was missing. A fault is told of.
+/// Makes a folder in one that is there, and gives whether it was missing. The watch is told of a fault.
 fn was_made<R: Files + AllocGlobal, P: Watch>(
     rt: &R,
     watch: &P,
@@ -189,7 +190,8 @@ fn is_folder<R: Files>(rt: &R, path: &str) -> bool {
     }
 }
 
-/// Has each name kept that the path of a folder leads through, the last one first. A fault is told of.
+/// Syncs the folders that the path of a folder leads through, so that the name of each is kept, the last one first.
+/// The watch is told of a fault.
 fn sync_above<R: Files + AllocGlobal, P: Watch>(
     rt: &R,
     watch: &P,
@@ -205,7 +207,7 @@ fn sync_above<R: Files + AllocGlobal, P: Watch>(
     Ok(())
 }
 
-/// Has what was made in a folder kept. A fault is told of.
+/// Syncs a folder, so that what was made in it is kept. The watch is told of a fault.
 fn sync<R: Files + AllocGlobal, P: Watch>(rt: &R, watch: &P, folder: Path<'_>) -> Result<(), Fault>
     ensures fault { IfErr result IsCallFault }
 {

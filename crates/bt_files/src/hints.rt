@@ -9,9 +9,9 @@ use bt_progress::Watch;
 use std::alloc::{AllocError, Global};
 use std::rt::Files;
 
-/// At a terminal, and where that was asked for, tells before any of a torrent's files is made that none of them is in
-/// their folder, or that there is no such folder; nothing for a read-only use, which makes none. Where memory is short,
-/// nothing is told.
+/// Hints, at a terminal and where hints were asked for, that none of a torrent's files is in their folder, or that
+/// there is no such folder, before any of them is made. Of a read-only use, which makes none, and where memory is
+/// short, nothing is told.
 pub(crate) fn hint_at_absence<R: Files + AllocGlobal + Clone + Drop + Lookup, P: Watch>(
     rt: &R,
     watch: &P,
@@ -27,7 +27,8 @@ pub(crate) fn hint_at_absence<R: Files + AllocGlobal + Clone + Drop + Lookup, P:
     }
 }
 
-/// What is told of a folder that has none of a torrent's files: nothing where it has one, or something in its place.
+/// What is told of a folder that has none of a torrent's files. None where the folder has one of them, or something
+/// in the place of one.
 fn absence_text<R: Files + AllocGlobal + Clone + Drop + Lookup>(
     rt: &R,
     dir: &str,
@@ -48,7 +49,7 @@ fn absence_text<R: Files + AllocGlobal + Clone + Drop + Lookup>(
     Ok(Some(text))
 }
 
-/// Whether one of a torrent's files, or something in its place, is in a folder.
+/// Whether one of a torrent's files is in a folder, or something in its place.
 fn has_file<R: Files + AllocGlobal + Clone + Drop + Lookup>(
     rt: &R,
     dir: &str,
@@ -63,8 +64,8 @@ fn has_file<R: Files + AllocGlobal + Clone + Drop + Lookup>(
     Ok(false)
 }
 
-/// At a terminal, and where that was asked for, tells that a file which is only read has more bytes than the torrent
-/// says, as a check does. Where memory is short, nothing is told.
+/// Hints, at a terminal and where hints were asked for, that a file which is only read has more bytes than the
+/// torrent says, as a check does. Where memory is short, nothing is told.
 pub(crate) fn hint_at_longer<P: Watch>(
     alloc: Global,
     watch: &P,
@@ -88,8 +89,8 @@ fn longer_text(alloc: Global, dir: &str, entry: &FileEntry) -> Result<String, Al
     format!(in alloc; "{name} is longer than the torrent says")
 }
 
-/// At a terminal, and where that was asked for, tells of a log that is refused which file it is in; and where that is one
-/// of the torrent's, which of them, if a look shows it.
+/// Hints, at a terminal and where hints were asked for, which file a refused log is in; and where that file is one of
+/// the torrent's, which one, if a look at the paths shows it.
 pub(crate) fn hint_at_log<T, R: Files + AllocGlobal + Clone + Drop + Lookup, P: Watch>(
     rt: &R,
     watch: &P,
@@ -107,7 +108,7 @@ pub(crate) fn hint_at_log<T, R: Files + AllocGlobal + Clone + Drop + Lookup, P: 
     }
 }
 
-/// What is told of a log that is refused: nothing of one that is not, but could not be opened.
+/// What is told of a log that is refused. None where it is not refused, but could not be opened.
 fn log_text<R: Files + AllocGlobal + Clone + Drop + Lookup>(
     rt: &R,
     dir: &str,
@@ -130,7 +131,7 @@ fn log_text<R: Files + AllocGlobal + Clone + Drop + Lookup>(
     Ok(Some(text))
 }
 
-/// The path of a torrent's file that a look shows to be the one at a path.
+/// The path of the torrent's file that a look shows to be the file at `path`, if there is one.
 fn file_at<R: Files + AllocGlobal + Clone + Drop + Lookup>(
     rt: &R,
     dir: &str,

@@ -5,7 +5,7 @@ use bt_engine::Engine;
 use bt_progress::{FileCall, Watch};
 use bt_tree::{BLOCK_LEN, NodeHash};
 
-/// Tells that work begins in which the blocks that are not marked are written.
+/// Tells the watch that writes begin, and how many bytes are to be written: those of the blocks that are not marked.
 pub fn begin_fetching<D: Disk + Drop, H: NodeHash, P: Watch>(watch: &P, engine: &Engine<D, H>) {
     watch.begin(FileCall::Write);
     engine.keeps_laws();
@@ -15,7 +15,7 @@ pub fn begin_fetching<D: Disk + Drop, H: NodeHash, P: Watch>(watch: &P, engine: 
     }
 }
 
-/// How many bytes the blocks of a file have that are not marked, if each is whole.
+/// How many bytes the blocks of a file have that are not marked, each counted as a whole block.
 fn lacking<D: Disk + Drop, H: NodeHash>(engine: &Engine<D, H>, file: u32) -> u64 {
     match engine.report(file) {
         Some(report) => length_of(report.blocks.saturating_sub(report.marked)),

@@ -1,5 +1,5 @@
-//! A torrent's data files as the devices of an engine: they are opened, what they have is taken in, at the end all
-//! is put on the disk, and how far they are is told. No peer is spoken of here.
+//! A torrent's data files as the devices of an engine: they are opened, what they have is taken in, at the end all is
+//! put on the disk, and how far they are is told. Nothing here speaks of peers.
 #![tactic(auto)]
 
 mod adoption;

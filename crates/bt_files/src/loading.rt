@@ -18,13 +18,13 @@ use bt_meta::Torrent;
 use bt_progress::{FileCall, Watch};
 use std::rt::Files;
 
-/// Reads a torrent from its file, and opens the store of its files in a folder, with a log where the path of one is
-/// given. The calls on the files are told. The first fault ends it; that the torrent itself is one of its files, as far
-/// as a look tells, comes before any file is made.
+/// Reads a torrent from its file, and opens the store of its data files in the folder `dir`, with a log where the
+/// path of one is given. The watch is told of the calls on these files. The first fault ends it. Where a look at the
+/// paths shows that the torrent's own file is one of its data files, that is refused before any file is made.
 ///
-/// Errors: `Torrent` where the torrent is refused; `SameFile` where two of its paths are one file that may be written,
-/// or one of them is the file that it is read from; `LogAmongFiles`, `OtherTorrent` or `LogTooLong` where the log is
-/// refused; `Device`; `OutOfMemory`.
+/// Errors: `Torrent` where the torrent is refused; `SameFile` where two paths of the torrent lead to one file that
+/// may be written, or one leads to the torrent's own file; `LogAmongFiles`, `OtherTorrent` or `LogTooLong` where the
+/// log is refused; `Device`; `OutOfMemory`.
 pub fn load_store<'a, R: Files + AllocGlobal + Clone + Drop + Lookup, P: Watch>(
     rt: &R,
     watch: &'a P,
@@ -33,7 +33,8 @@ pub fn load_store<'a, R: Files + AllocGlobal + Clone + Drop + Lookup, P: Watch>(
     dir: &str,
     log: Option<&str>,
 ) -> Result<Store<'a, R, P>, Fault>
-    ensures loaded { IfOk result (IsLoaded source.entry.is_info context.entry.usage dir.now log.entry) }
+    ensures loaded { IfOk result (IsLoaded source.entry.is_info context.entry.usage dir.now
+        log.entry) }
     ensures looked { IfOk result (λ engine.
         IsLogApart (R.tells rt.now) dir.now engine.state.torrent.files log.entry) }
     ensures own { IfOk result (λ engine. is_read_only context.entry.usage ≡ false
@@ -50,7 +51,7 @@ pub fn load_store<'a, R: Files + AllocGlobal + Clone + Drop + Lookup, P: Watch>(
     open_store(rt, watch, context, torrent, dir, log)
 }
 
-/// Reads a torrent from its file, which is read once: it may be a pipe.
+/// Reads a torrent from its file. It reads the file once, so that may be a pipe.
 fn load_torrent<R: Files + AllocGlobal, P: Watch>(
     rt: &R,
     watch: &P,

@@ -14,8 +14,9 @@ use bt_progress::Watch;
 use std::alloc::{AllocError, Global};
 use std::rt::Files;
 
-/// What is known of the files of a torrent that were opened below a folder: no two of them are one file, and what is new
-/// is kept. Where nothing is to be written, nothing is known, and two of them may be one file.
+/// The files of a torrent that were opened in a folder so far, as the system tells them apart: no two of them are one
+/// file. What is new among them, and the folders on their way, are synced. Of a read-only use nothing is known, and
+/// two of the files may be one.
 #[derive(Drop)]
 pub(crate) struct OpenFolder {
     files: KnownFiles,
@@ -33,7 +34,8 @@ impl OpenFolder {
         }
     }
 
-    /// Goes on to the folder of the next file, in the order of the torrent, and makes it where it is missing.
+    /// Goes on to the folder of the next file, in the order of the torrent, and makes it where it is missing. For a
+    /// read-only use nothing is done. Errors: a folder can't be made or synced; memory is refused.
     pub(crate) fn go_to<R: Files + AllocGlobal, P: Watch>(
         &mut self,
         rt: &R,
@@ -51,8 +53,8 @@ impl OpenFolder {
         self.trail.go_to(rt, watch, dir, path)
     }
 
-    /// The file was opened. Errors: it is one of those before, by what the system tells of it, which is told by its name;
-    /// memory is refused.
+    /// Notes that the file at `path` was opened. Errors: by what the system tells of it, it is a file that was opened
+    /// before, of which the watch is told with the path; memory is refused.
     pub(crate) fn add<P: Watch>(
         &mut self,
         alloc: Global,
@@ -77,7 +79,8 @@ impl OpenFolder {
         Ok(())
     }
 
-    /// All files were opened: what is new is kept. Errors: a folder can't be synced; memory is refused.
+    /// Ends the way, once all files were opened: the folders in which something is new are synced. Errors: a folder
+    /// can't be synced; memory is refused.
     pub(crate) fn end<R: Files + AllocGlobal, P: Watch>(
         &mut self,
         rt: &R,
@@ -94,7 +97,7 @@ impl OpenFolder {
         self.trail.end(rt, watch, dir)
     }
 
-    /// What is known of the files, by what the system tells them apart.
+    /// The files that were opened, as the system tells them apart.
     pub(crate) fn into_files(self) -> KnownFiles
         ensures { result ≡ self.files }
     {
@@ -102,7 +105,7 @@ impl OpenFolder {
         files
     }
 
-    /// A file that is new is to be kept.
+    /// Notes that a file may be new, so that its folder is synced.
     fn keep(&mut self, opening: Opening)
         ensures { self.new.files ≡ self.old.files }
     {
@@ -111,7 +114,7 @@ impl OpenFolder {
         }
     }
 
-    /// Adds a file by what the system tells of it. Errors: it is one of those before; memory is refused.
+    /// Adds a file by what the system tells of it. Errors: it is a file that was opened before; memory is refused.
     fn add_file<P: Watch>(
         &mut self,
         alloc: Global,
@@ -131,8 +134,8 @@ impl OpenFolder {
         Err(Fault::SameFile)
     }
 
-    /// Whether a file is none of those before, by what the system tells of it, to which it is added. Where that is
-    /// nothing, it counts as none.
+    /// Adds a file by what the system tells of it, and gives whether it is none of those that were opened before. A
+    /// file of which the system tells nothing counts as none of them.
     fn is_own_file(&mut self, identity: Option<FileIdentity>) -> Result<bool, AllocError>
         ensures is_own { IfOk result (λ is_own. MatchBool is_own
             (IfSome identity (λ file. ¬ IsKnown self.old.files file))
@@ -146,15 +149,16 @@ impl OpenFolder {
     }
 }
 
-/// Whether the name of a file may be lost yet: it was made now, or has no byte. Blocks are written once all folders with
-/// something new are synced, so an empty file may be one that an earlier run made, which was killed before that.
+/// Whether the name of a file may not be kept yet: the file was made now, or has no byte. An empty file may have been
+/// made by an earlier run that was killed before it synced the folders; a file with bytes was not, since blocks are
+/// written only once all folders with something new are synced.
 fn is_new(opening: Opening) -> bool
     ensures { IsTrue result ↔ (IsTrue opening.was_made ⊎ (opening.len ≡ 0)) }
 {
     opening.was_made || opening.len == 0
 }
 
-/// Tells that a path leads to the file of one before it.
+/// Tells the watch that this path leads to the same file as one before it.
 pub(crate) fn tell_same_file<P: Watch>(
     alloc: Global,
     watch: &P,

@@ -1,4 +1,4 @@
-//! Names on the paths of a torrent's files, each of which has to lead to a file or a folder of its own.
+//! The names on the paths of a torrent's files: each has to lead to a file or a folder of its own.
 ghost use Rattle.std.specs.Prelude.{◌≡◌, false, map, IfErr, IfOk, OnOk};
 ghost use Rattle.std.specs.Bool.{OnFalse, OnTrue};
 ghost use Rattle.bt_folder.specs.CasePaths.{GoesTo, HasNameOfAnother, IsOwnPath};
@@ -15,11 +15,12 @@ use bt_meta::{FileEntry, FilePath};
 use bt_progress::{FileCall, Watch};
 use std::rt::Files;
 
-/// Looks at the names on the paths of a torrent's files, once all of these were opened, but for a read-only use. So the
-/// first listing of a folder has all names in it, and it is not listed again for each that differs in case.
+/// Looks whether each name on the paths of a torrent's files has a file or folder of its own, but for a read-only
+/// use. All files are open by now: so the first listing of a folder has all its names, and a folder is not listed
+/// again for each name that differs from another in case alone.
 ///
-/// Errors: a name is that of another, in a folder that has one file for names which differ in case, which is told by the
-/// path of the later file; a folder can't be listed; memory is refused.
+/// Errors: two names that differ in case are one file or folder, of which the watch is told with the path of the
+/// later file; a folder can't be listed; memory is refused.
 pub(crate) fn look_at_paths<R: Files + AllocGlobal + Clone + Drop + Lookup, P: Watch>(
     rt: &R,
     watch: &P,
@@ -44,7 +45,8 @@ pub(crate) fn look_at_paths<R: Files + AllocGlobal + Clone + Drop + Lookup, P: W
     Ok(())
 }
 
-/// Whether each name on the next path is its own, in a folder that may have one file for names which differ in case.
+/// Whether each name on the next path has a file or folder of its own, also in a folder for which names that differ
+/// in case are one.
 fn is_own_path<R: Files + AllocGlobal + Clone + Drop + Lookup, P: Watch>(
     rt: &R,
     watch: &P,

@@ -1,4 +1,4 @@
-//! The file that a torrent is read from, which is none of those that it names.
+//! The file that a torrent is read from, which must be none of its data files.
 ghost use Rattle.std.specs.Prelude.{◌≡◌, false, IfErr, OnOk};
 ghost use Rattle.bt_log_file.specs.Looking.{HasNoFileAt};
 ghost use Rattle.bt_files.specs.FileUse.{is_read_only};
@@ -13,11 +13,11 @@ use bt_progress::Watch;
 use std::alloc::{AllocError, Global};
 use std::rt::Files;
 
-/// Refuses a torrent that was read from one of its own files, below the folder `dir`, as far as a look shows it, before
-/// any of them is opened or made: what comes for that file would be written over the torrent. Not where it is only
-/// read.
+/// Refuses a torrent that was read from one of its own data files in the folder `dir`, where a look at the paths
+/// shows that, before any of them is opened or made: what comes for that file would be written over the torrent. For
+/// a read-only use nothing is refused.
 ///
-/// Errors: `SameFile`, which is told by the path of the torrent; memory is refused.
+/// Errors: `SameFile`, of which the watch is told with the torrent's path; memory is refused.
 pub(crate) fn look_at_source<R: Files + AllocGlobal + Clone + Drop + Lookup, P: Watch>(
     rt: &R,
     watch: &P,
@@ -41,7 +41,7 @@ pub(crate) fn look_at_source<R: Files + AllocGlobal + Clone + Drop + Lookup, P: 
     Ok(())
 }
 
-/// Tells that a torrent's file is one of those that it names.
+/// Tells the watch that the file of a torrent is one of its data files.
 fn tell_source<P: Watch>(alloc: Global, watch: &P, path: &str) -> Result<(), AllocError> {
     let text = format!(in alloc; "{path}: this torrent's own file is one of those that it names")?;
     watch.tell(text.as_str());

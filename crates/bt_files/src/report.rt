@@ -1,4 +1,4 @@
-//! How far the files of an engine are, told as a check tells it.
+//! How far the files of an engine are, written as a check writes it.
 ghost use Rattle.std.specs.Prelude.{◌≡◌, ◌⊎◌, ◌<◌, Some, length, slice_get, option_map, IfOk, IfErr, OnOk};
 ghost use Rattle.std.specs.Io.KnownBytes.{Appends};
 ghost use Rattle.bt_machine.specs.Report.{all_complete};
@@ -12,7 +12,7 @@ use bt_tree::NodeHash;
 use std::alloc::Global;
 use std::io::Write;
 
-/// Writes a line for each file of an engine's torrent, in order, and the last line; and gives whether all are
+/// Writes a line for each file of an engine's torrent, in order, and then the last line; gives whether all files are
 /// complete. Errors: `Device` where the writer fails; `OutOfMemory`.
 pub fn write_report<D: Disk + Drop, H: NodeHash, W: Write>(
     alloc: Global,
@@ -30,7 +30,7 @@ pub fn write_report<D: Disk + Drop, H: NodeHash, W: Write>(
     Ok(complete)
 }
 
-/// Writes the lines of the files.
+/// Writes a line for each file.
 fn write_lines<D: Disk + Drop, H: NodeHash, W: Write>(
     alloc: Global,
     engine: &Engine<D, H>,
@@ -48,7 +48,7 @@ fn write_lines<D: Disk + Drop, H: NodeHash, W: Write>(
     Ok(())
 }
 
-/// How far a file is, as a check would find it.
+/// How far a file is: of how many blocks how many are marked.
 fn finding_at<D: Disk + Drop, H: NodeHash>(engine: &Engine<D, H>, file: u32) -> Finding
     requires { file < length engine.now.state.files }
     ensures { option_map finding_of (slice_get engine.now.state.files file) ≡ Some result }

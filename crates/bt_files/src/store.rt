@@ -1,4 +1,4 @@
-//! The store of a torrent's files: an engine over them, from its opening to its flush.
+//! The store of a torrent's files: an engine over them, from when it is opened to when it is flushed.
 ghost use Rattle.std.specs.Prelude.{◌≡◌, false, Bool, List, Ok, Err, None, Some, length, map, IfOk, IfErr, IfSome, OnOk};
 ghost use Rattle.sha2.specs.Sha256.{sha256};
 ghost use Rattle.bt_machine.specs.declared.error.FlushError.{FlushError};
@@ -35,14 +35,19 @@ use bt_tree::NodeHash;
 use std::alloc::Global;
 use std::rt::Files;
 
-/// The store of a torrent's data files, whose digests are looked up where they were made ahead.
+/// The store of a torrent's data files: an engine over their devices. A digest that was made ahead of time is looked
+/// up in a cache; any other is computed.
 pub type Store<'a, R, P> = Engine<DataDisk<'a, R, P>, CachedLanes<'a>>;
 
-/// Opens the store of a torrent's files in a folder: missing folders and files are made, but for a read-only use, and
-/// the files are opened in the order of the torrent. Then what they have is taken in; or, where the path of a log is
-/// given, it is opened, and made where it is absent, and tells which blocks are there, and what they have beside these
-/// does not count. The first fault ends it; a log whose file is one of the torrent's, as far as a look tells, comes
-/// before any file is made.
+/// Opens the data files of a torrent in the folder `dir`, in the order of the torrent, and begins an engine over
+/// them. For any use but a read-only one, folders and files that are missing are made.
+///
+/// Without a log the engine takes in what the files have: it reads them, and marks the blocks that are right. With
+/// the path of a log, that log is opened, or made where there is none, and the blocks that it marks are those that
+/// count: whatever else the files have is not taken in.
+///
+/// Errors: the first fault ends it. Where a look at the paths shows that the log's file is one of the torrent's, the
+/// log is refused before any file is made.
 pub(crate) fn open_store<'a, R: Files + AllocGlobal + Clone + Drop + Lookup, P: Watch>(
     rt: &R,
     watch: &'a P,
@@ -73,8 +78,8 @@ pub(crate) fn open_store<'a, R: Files + AllocGlobal + Clone + Drop + Lookup, P: 
     )
 }
 
-/// Opens the data files of some entries, as `open_devices` has it, for what their use becomes where the path of a log
-/// is given, or none.
+/// Opens the files of these entries, as `open_devices` does. `FileUse::with_log` tells what they are opened for,
+/// since that depends on whether there is a log.
 fn open_files<'a, R: Files + AllocGlobal + Clone + Drop + Lookup, P: Watch>(
     rt: &R,
     watch: &'a P,
@@ -84,7 +89,8 @@ fn open_files<'a, R: Files + AllocGlobal + Clone + Drop + Lookup, P: Watch>(
     log: Option<&str>,
 ) -> Result<OpenFiles<DataDisk<'a, R, P>>, Fault>
     ensures devices { IfOk result (λ files. AreNewDevices
-        (use_with context.entry.usage log.entry) dir.now (map file_of entries.now) files.disks.items) }
+        (use_with context.entry.usage log.entry) dir.now
+        (map file_of entries.now) files.disks.items) }
     ensures each { IfOk result (λ files. length files.filled.items ≡ length entries.now) }
     ensures filled { IfOk result (λ files. AreFilled (map file_of entries.now) files.filled.items) }
     ensures known { IfOk result
@@ -107,7 +113,8 @@ fn open_files<'a, R: Files + AllocGlobal + Clone + Drop + Lookup, P: Watch>(
     open_devices(rt, watch, used, dir, entries)
 }
 
-/// Starts an engine of a torrent over the devices of its opened files, with a log of it or without.
+/// Starts an engine for a torrent over the devices of its opened files. With a log, the blocks that the log marks are
+/// those that count; without one, the engine takes in what the files have. Errors: a read failed; out of memory.
 fn begin_store<'a, D: Disk + Drop, P: Watch>(
     alloc: Global,
     watch: &P,
@@ -143,7 +150,7 @@ fn begin_store<'a, D: Disk + Drop, P: Watch>(
     }
 }
 
-/// Tells that those files are to be read of which bytes are there.
+/// Tells the watch how many bytes are to be read: all of each file that `filled` says has some.
 fn expect_reads<P: Watch>(watch: &P, files: &[FileEntry], filled: &[bool]) {
     for (number, file) in files.iter().enumerate() {
         if filled.get(number) == Some(&true) {
@@ -152,8 +159,9 @@ fn expect_reads<P: Watch>(watch: &P, files: &[FileEntry], filled: &[bool]) {
     }
 }
 
-/// Starts an engine of a torrent over the devices of its files that have a byte, without a log, and takes in what is
-/// there of them. `filled` tells of each file of the torrent whether bytes of it are there.
+/// Starts an engine for a torrent over the devices of its files, without a log, and takes in what these files have.
+/// An empty file has no device. `filled` tells for each file of the torrent whether it has bytes; a file that has
+/// none is not read. Errors: a read failed; out of memory.
 pub(crate) fn begin<'a, D: Disk + Drop>(
     alloc: Global,
     torrent: Torrent,
@@ -179,8 +187,8 @@ pub(crate) fn begin<'a, D: Disk + Drop>(
     }
 }
 
-/// Starts an engine of a torrent over these devices with a log of it, which tells what is there of them: so nothing is
-/// taken in, whatever files have bytes.
+/// Starts an engine for a torrent over the devices of its files, with the torrent's log. The log tells which blocks
+/// count, so no file is taken in, whatever bytes it has. Errors: out of memory.
 pub(crate) fn begin_with_log<'a, D: Disk + Drop>(
     alloc: Global,
     torrent: Torrent,
@@ -203,8 +211,9 @@ pub(crate) fn begin_with_log<'a, D: Disk + Drop>(
     }
 }
 
-/// Has all that was written put on the devices of an engine, and then what waits for its log, if it has one, written to
-/// it; nothing else of it changes. Errors: a device failed, or the log is full; what waited waits still.
+/// Flushes an engine: its devices put all that was written on the disk, and then what waits for the engine's log, if
+/// it has one, is written to the log. Nothing else of the engine changes. Errors: a device failed, or the log is
+/// full; what waited for the log waits still.
 pub fn finish<D: Disk + Drop, H: NodeHash>(engine: &mut Engine<D, H>) -> Result<(), Fault>
     ensures flushed { OnOk result
         (StepsTo D.conduct H.digest engine.old Flush (Flushed (Ok tt)) engine.new) }
@@ -220,7 +229,7 @@ pub fn finish<D: Disk + Drop, H: NodeHash>(engine: &mut Engine<D, H>) -> Result<
     }
 }
 
-/// Why the program ends where a flush was refused.
+/// The fault by which the program ends where a flush was refused.
 pub fn flush_fault(error: FlushError) -> Fault
     ensures { result ≡ flush_fault error }
 {

@@ -1,4 +1,4 @@
-//! The log of a store, where it is to have one.
+//! The log of a store, if there is to be one.
 ghost use Rattle.std.specs.Prelude.{IfErr, IfOk, OnOk};
 ghost use Rattle.bt_log_file.specs.Keeping.{HasFolderThat, IsKeptFile};
 ghost use Rattle.bt_log_file.specs.Names.{HasFileByName, HasNoFileByName};
@@ -19,7 +19,8 @@ use bt_resume::ResumeLog;
 use bt_tree::NodeHash;
 use std::rt::Files;
 
-/// Refuses the file of a log where a look shows that it is one of the torrent's, before any of them is opened or made.
+/// Refuses a log whose path leads to one of the torrent's files, where a look at the paths shows that, before any of
+/// these files is opened or made.
 pub(crate) fn look_at_log<R: Files + AllocGlobal + Clone + Drop + Lookup, P: Watch>(
     rt: &R,
     watch: &P,
@@ -41,8 +42,8 @@ pub(crate) fn look_at_log<R: Files + AllocGlobal + Clone + Drop + Lookup, P: Wat
     }
 }
 
-/// Opens the log of a torrent, where the path of one is given. All files of the torrent were opened before: `known` has
-/// them, but for a read-only use, and the log's file is added to it.
+/// Opens the log of a torrent, where the path of one is given. All files of the torrent are open by now: `known` has
+/// what the system tells of them, but for a read-only use, and gets the log's file too.
 pub(crate) fn open_log_at<'a, R: Files + AllocGlobal + Clone + Drop, P: Watch>(
     rt: &R,
     watch: &'a P,
@@ -64,7 +65,7 @@ pub(crate) fn open_log_at<'a, R: Files + AllocGlobal + Clone + Drop, P: Watch>(
     }
 }
 
-/// Opens the log of a torrent at a path, as `open_log` does. One that is refused is told of.
+/// Opens the log of a torrent at a path, as `open_log` does. The watch is told of a log that is refused.
 fn open_or_hint<'a, R: Files + AllocGlobal + Clone + Drop + Lookup + LogFolder, P: Watch>(
     rt: &R,
     watch: &'a P,
@@ -77,19 +78,23 @@ fn open_or_hint<'a, R: Files + AllocGlobal + Clone + Drop + Lookup + LogFolder, 
     ensures log { IfOk result (IsFurtherLog known.old torrent.now path.now known.new) }
     ensures own_name { OnOk result (HasNoFileByName
         (R.tells rt.now) (R.lists rt.now) dir.now torrent.now.files path.now) }
-    ensures kept { OnOk result (IsKeptFile (R.opens rt.now) (R.leads rt.now) (R.keeps rt.now) path.now) }
+    ensures kept { OnOk result (IsKeptFile (R.opens rt.now) (R.leads rt.now)
+        (R.keeps rt.now) path.now) }
     ensures fault { let failed = HasFailed (R.refuses rt.now) (R.lists rt.now) path.now
         in let lost = HasFolderThat (R.leads rt.now) (R.loses rt.now) path.now
-        in let named = HasFileByName (R.tells rt.now) (R.lists rt.now) dir.now torrent.now.files path.now
-        in let own = HasNoFileByName (R.tells rt.now) (R.lists rt.now) dir.now torrent.now.files path.now
-        in IfErr result (IsLogFaultBy (IsCallFaultOf failed lost) named own known.old torrent.now path.now) }
+        in let named = HasFileByName (R.tells rt.now)
+        (R.lists rt.now) dir.now torrent.now.files path.now
+        in let own = HasNoFileByName (R.tells rt.now)
+        (R.lists rt.now) dir.now torrent.now.files path.now
+        in IfErr result (IsLogFaultBy (IsCallFaultOf failed lost) named own known.old torrent.now
+        path.now) }
 {
     let outcome = open_log(rt, watch, context, known, dir, torrent, path);
     hint_at_log(rt, watch, dir, torrent, path, &outcome);
     outcome
 }
 
-/// What a log's device shares with what is outside of it.
+/// What the device of a log shares with the other devices and with the connections.
 fn log_context<'a>(context: DeviceContext<'a>) -> LogContext<'a> {
     LogContext {
         digests: context.digests,
@@ -98,8 +103,8 @@ fn log_context<'a>(context: DeviceContext<'a>) -> LogContext<'a> {
     }
 }
 
-/// At a terminal, and where that was asked for, tells that a log marks nothing although files have bytes: with it they
-/// don't count. `filled` tells of each file whether it has.
+/// Hints, at a terminal and where hints were asked for, that a log marks nothing although files have bytes: with that
+/// log these do not count. `filled` tells for each file whether it has bytes.
 pub(crate) fn hint_at_unmarked<D: Disk + Drop, H: NodeHash, P: Watch>(
     watch: &P,
     engine: &Engine<D, H>,

@@ -1,4 +1,4 @@
-//! Files of which a piece may have come whole, some of its blocks without their hashes, are taken in.
+//! Taking in files of which a piece may have come whole, though some of its blocks came without their hashes.
 ghost use Rattle.std.specs.Prelude.{[], ◌≡◌, ◌*◌, ◌<◌, ◌↔◌, IsTrue, IfErr, OnOk};
 ghost use Rattle.bt_tree.specs.Limits.{full_block_length};
 ghost use Rattle.bt_engine.specs.Leads.{LeadsTo};
@@ -10,11 +10,12 @@ use bt_disk::Disk;
 use bt_engine::Engine;
 use bt_tree::{BLOCK_LEN, NodeHash};
 
-/// Takes in each file of which a piece may have come whole, where a block of it waits for its hash: what the torrent
-/// says of a piece decides whether its blocks are right, and the others stay as they are. Which blocks came is not
-/// looked at, but how many: so a file of several pieces is read where any of its blocks waits, and one of a single
-/// piece only where all came. A file may be settled by one before it that has the same root. Where no block waits it
-/// costs a look at each file. Errors: a read failed, or out of memory; the files before stay taken in.
+/// Takes in each file in which a block waits for its hash and of which a piece may have come whole: the digest that
+/// the torrent has of a piece decides then whether the piece's blocks are right, and all other blocks stay as they
+/// are. How many blocks of a file are there decides, not which: a file of several pieces is read where any of its
+/// blocks waits, a file of one piece only where all of its blocks are there. A file may be settled by one before it
+/// that has the same root. Where no block waits, it costs a look at each file. Errors: a read failed, or out of
+/// memory; the files before that one stay taken in.
 pub fn adopt_waiting<D: Disk + Drop, H: NodeHash>(engine: &mut Engine<D, H>) -> Result<(), Fault>
     requires { engine.old.state.peers ≡ [] }
     ensures taken_in { OnOk result
@@ -35,8 +36,8 @@ pub fn adopt_waiting<D: Disk + Drop, H: NodeHash>(engine: &mut Engine<D, H>) -> 
     Ok(())
 }
 
-/// Whether a block of a file waits, and it has several pieces or none of its blocks is missing. False where there is no
-/// such file.
+/// Whether a block of a file waits, and the file has several pieces or lacks no block. False where there is no such
+/// file.
 fn may_have_waiting_piece<D: Disk + Drop, H: NodeHash>(engine: &Engine<D, H>, file: u32) -> bool
     ensures { IsTrue result ↔ MayHaveWaitingPiece engine.now.state file }
 {
@@ -49,7 +50,7 @@ fn may_have_waiting_piece<D: Disk + Drop, H: NodeHash>(engine: &Engine<D, H>, fi
     report.waiting > 0 && (has_several || is_whole)
 }
 
-/// Whether a file of so many blocks has more than one piece.
+/// Whether a file of `blocks` blocks has more than one piece.
 fn has_several_pieces<D: Disk + Drop, H: NodeHash>(engine: &Engine<D, H>, blocks: u32) -> bool
     ensures { IsTrue result
         ↔ (engine.now.state.torrent.piece_length < blocks * full_block_length) }

@@ -39,9 +39,12 @@ impl GateClock {
 
     /// Work is over that began when the clock was looked at last. Says how much of it counts.
     pub(crate) fn work(&mut self, now: Instant) -> Duration
-        ensures long { HavePassed WORK_SECONDS self.old.looked now → CountsNothing self.old now self.new }
-        ensures short { ¬ HavePassed WORK_SECONDS self.old.looked now → CountsAll self.old now self.new }
-        ensures told { instant_nanos self.new.counted ≡ instant_nanos self.old.counted + as_nanos result }
+        ensures long { HavePassed WORK_SECONDS self.old.looked now
+            → CountsNothing self.old now self.new }
+        ensures short { ¬ HavePassed WORK_SECONDS self.old.looked now
+            → CountsAll self.old now self.new }
+        ensures told { instant_nanos self.new.counted ≡ instant_nanos self.old.counted
+            + as_nanos result }
     {
         let passed = now.duration_since(self.looked);
         self.looked = now;
@@ -54,7 +57,8 @@ impl GateClock {
     /// Sockets were waited for since the clock was looked at last. All of it counts, however long: says how much.
     pub(crate) fn wait(&mut self, now: Instant) -> Duration
         ensures counted { CountsAll self.old now self.new }
-        ensures told { instant_nanos self.new.counted ≡ instant_nanos self.old.counted + as_nanos result }
+        ensures told { instant_nanos self.new.counted ≡ instant_nanos self.old.counted
+            + as_nanos result }
     {
         let passed = now.duration_since(self.looked);
         self.looked = now;
@@ -65,7 +69,8 @@ impl GateClock {
     fn count(&mut self, passed: Duration) -> Duration
         ensures counted { FitsClock (instant_nanos self.old.counted + as_nanos passed)
             → instant_nanos self.new.counted ≡ instant_nanos self.old.counted + as_nanos passed }
-        ensures told { instant_nanos self.new.counted ≡ instant_nanos self.old.counted + as_nanos result }
+        ensures told { instant_nanos self.new.counted ≡ instant_nanos self.old.counted
+            + as_nanos result }
         ensures looked { self.new.looked ≡ self.old.looked }
     {
         match self.counted.checked_add(passed) {

@@ -117,7 +117,11 @@ impl<'a, N: Net + Clock, P: Watch> TcpGate<'a, Dialling<'a, N, P>, N, P> {
         passage: Passage<'a>,
         seats: &'a Seats,
     ) -> io::Result<Self>
-        ensures { IfOk result (λ gate. gate ≡ record { waits = 0; door = undialled (length peers.now) }) }
+        ensures { IfOk result (λ gate. gate ≡ record {
+          waits = 0;
+          door = undialled
+              (length peers.now);
+        }) }
     {
         let door = Dialling::new(alloc, net, watch, peers)?;
         TcpGate::new(alloc, net, net, watch, door, passage, seats)

@@ -60,8 +60,10 @@ impl Marks {
 
     /// The system tells what the socket is ready for.
     pub(crate) fn see(&mut self, readable: bool, writable: bool)
-        ensures readable { IsTrue self.new.is_readable ↔ (IsTrue self.old.is_readable ⊎ IsTrue readable) }
-        ensures writable { IsTrue self.new.is_writable ↔ (IsTrue self.old.is_writable ⊎ IsTrue writable) }
+        ensures readable { IsTrue self.new.is_readable ↔ (IsTrue self.old.is_readable
+            ⊎ IsTrue readable) }
+        ensures writable { IsTrue self.new.is_writable ↔ (IsTrue self.old.is_writable
+            ⊎ IsTrue writable) }
         ensures others { self.new ≡ record self.old
             { is_readable = self.new.is_readable; is_writable = self.new.is_writable } }
     {

@@ -83,7 +83,8 @@ impl<'a, S: Read> ReadyStream<'a, S> {
     /// where nothing came for too long.
     fn read_now(&mut self, marks: &mut Marks, buffer: &mut [u8]) -> io::Result<usize>
         ensures bound { ReadsAtMost result buffer.new }
-        ensures bytes { ReadConsumes (S.remaining self.old) (S.remaining self.new) result buffer.new }
+        ensures bytes { ReadConsumes (S.remaining self.old)
+            (S.remaining self.new) result buffer.new }
     {
         match self.inner.read(buffer) {
             Ok(count) => {

@@ -50,7 +50,8 @@ impl<H: NodeHash> SparseTree<H> {
     /// and the padding are right and the top is held, in place of Ok, P5 or P6.
     pub fn accept(&mut self, claim: &Claim) -> Result<u32, ProofError>
         ensures ok { IfOk result (λ _. Accepts H.digest self.old claim.now self.new) }
-        ensures count { IfOk result (λ count. finite.len self.new.nodes ≡ finite.len self.old.nodes + count) }
+        ensures count { IfOk result (λ count. finite.len self.new.nodes ≡ finite.len self.old.nodes
+            + count) }
         ensures refused { IfErr result (IsRefused H.digest self.old claim.now) }
         ensures memory { IfErr result (λ error. error ≡ ProofError.OutOfMemory
             → HasHeldTop H.digest self.old claim.now) }
@@ -172,7 +173,8 @@ fn put_pairs(geometry: Geometry, nodes: &mut NodeMap, pairs: &[ClaimedPair]) -> 
     requires ready { All (HasPlaces (block_count geometry) nodes.old) pairs.now }
     ensures { (dig : List ℕ → List ℕ) (c : Claim) → All (IsPairOf dig c) pairs.now
         → AgreesAt dig (nodes_in nodes.old) c
-        → IsGrownBy dig c (block_count geometry) (nodes_in nodes.old) (nodes_in nodes.new) result pairs.now }
+        → IsGrownBy dig c (block_count geometry) (nodes_in nodes.old)
+        (nodes_in nodes.new) result pairs.now }
 {
     let mut count = 0;
     for pair in pairs {
@@ -186,7 +188,8 @@ fn put_pairs(geometry: Geometry, nodes: &mut NodeMap, pairs: &[ClaimedPair]) -> 
 fn put(geometry: Geometry, nodes: &mut NodeMap, layer: u32, index: u32, digest: &Hash32) -> u32
     requires inside { layer ≤ height_of (block_count geometry) }
     requires high { layer ≤ max_height }
-    requires ready { index < real_width (block_count geometry) layer → HasPlace nodes.old layer index }
+    requires ready { index < real_width (block_count geometry) layer
+        → HasPlace nodes.old layer index }
     ensures put { IsPut (block_count geometry) layer index digest.now (nodes_in nodes.old)
         (nodes_in nodes.new) result }
     ensures longer { KeepsPlaces nodes.old nodes.new }

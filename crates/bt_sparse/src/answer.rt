@@ -52,7 +52,8 @@ impl Request {
     /// Whether the request has the right shape in a tree of this height.
     fn is_lawful(self) -> bool
         requires { self.height ≤ max_height }
-        ensures { IsTrue result ↔ IsRequest self.height self.base self.index self.length self.layers }
+        ensures { IsTrue result ↔ IsRequest self.height self.base self.index self.length
+            self.layers }
     {
         let height = self.height as u32;
         if self.base >= height || self.length < 2 || self.length > MAX_RUN_LENGTH {
@@ -199,10 +200,12 @@ impl<H: NodeHash> SparseTree<H> {
         ensures known { OnOk result
             (KnowsAll H.digest self.now request.base request.index request.length request.layers) }
         ensures shape { (result ≡ Err AnswerError.Shape)
-            ↔ (¬ IsRequest (height self.now) request.base request.index request.length request.layers) }
+            ↔ (¬ IsRequest (height self.now) request.base request.index request.length
+            request.layers) }
         ensures unknown { (result ≡ Err AnswerError.Unknown)
             ↔ (IsRequest (height self.now) request.base request.index request.length request.layers
-            × HasUnknown H.digest self.now request.base request.index request.length request.layers) }
+            × HasUnknown H.digest self.now request.base request.index request.length
+            request.layers) }
         ensures no_memory { result ≢ Err AnswerError.OutOfMemory }
     {
         if !request.is_lawful() {
@@ -216,14 +219,16 @@ impl<H: NodeHash> SparseTree<H> {
 
     /// Whether every node that the request needs is known.
     fn knows_all(&self, request: Request) -> bool
-        requires lawful { IsRequest request.height request.base request.index request.length request.layers }
+        requires lawful { IsRequest request.height request.base request.index request.length
+            request.layers }
         requires height { request.height ≡ height self.now }
         requires high { request.height ≤ max_height }
         requires sound { IsSound H.digest self.now }
         ensures yes { OnTrue result
             (KnowsAll H.digest self.now request.base request.index request.length request.layers) }
         ensures no { OnFalse result
-            (HasUnknown H.digest self.now request.base request.index request.length request.layers) }
+            (HasUnknown H.digest self.now request.base request.index request.length
+            request.layers) }
     {
         for t in 0..request.size() {
             let (layer, index) = request.node(t);
@@ -248,13 +253,16 @@ impl<H: NodeHash> SparseTree<H> {
 
     /// Writes the digests of the nodes that the request needs, all of which are known, over as many.
     fn fill(&self, request: Request, digests: &mut [Hash32])
-        requires lawful { IsRequest request.height request.base request.index request.length request.layers }
+        requires lawful { IsRequest request.height request.base request.index request.length
+            request.layers }
         requires height { request.height ≡ height self.now }
         requires high { request.height ≤ max_height }
         requires sound { IsSound H.digest self.now }
-        requires known { KnowsAll H.digest self.now request.base request.index request.length request.layers }
+        requires known { KnowsAll H.digest self.now request.base request.index request.length
+            request.layers }
         requires room { HasRoom request.length request.layers digests.old }
-        ensures { IsAnswer H.digest self.now request.base request.index request.length request.layers
+        ensures { IsAnswer H.digest self.now request.base request.index request.length
+            request.layers
             digests.new }
     {
         let mut padding = Padding::new(self.hash);

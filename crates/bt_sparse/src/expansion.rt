@@ -170,7 +170,8 @@ fn add_layer(
     requires { first + length nodes.now ≤ 2 * max_block_count }
     ensures { OnOk result ((dig : List ℕ → List ℕ) (c : Claim) (above : ℕ) → layer ≡ c.base + above
         → AreRunNodes dig c above (2 * first) nodes.now
-        → pairs.new.items ≡ pairs.old.items ++ layer_pairs dig c above first (length nodes.now / 2)) }
+        → pairs.new.items ≡ pairs.old.items ++ layer_pairs dig c above first
+        (length nodes.now / 2)) }
 {
     for i in 0..nodes.len() / 2 {
         pairs.push(ClaimedPair {
@@ -190,7 +191,8 @@ pub(crate) fn parents<H: NodeHash>(
     alloc: Global,
     nodes: &[Hash32],
 ) -> Result<Vec<Hash32>, AllocError>
-    ensures { IfOk result (λ above. AreParents H.digest nodes.now above.items (length nodes.now / 2)) }
+    ensures { IfOk result (λ above. AreParents H.digest nodes.now above.items
+        (length nodes.now / 2)) }
 {
     let count = nodes.len() / 2;
     // And room for the padding that may complete their last pair.
@@ -210,7 +212,8 @@ fn add_eights<H: NodeHash>(
     nodes: &[Hash32],
 ) -> Result<(), AllocError>
     requires { above.old.items ≡ [] }
-    ensures { OnOk result (AreParents H.digest nodes.now above.new.items (length nodes.now / 2 / 8 * 8)) }
+    ensures { OnOk result (AreParents H.digest nodes.now above.new.items
+        (length nodes.now / 2 / 8 * 8)) }
 {
     let (sixteens, _) = nodes.as_chunks::<16>();
     for sixteen in sixteens {
@@ -232,7 +235,8 @@ fn add_path<H: NodeHash>(
     requires layers { layers ≡ run_height claim.now }
     requires digest { digest ≡ path_digest H.digest claim.now 0 }
     requires high { claim.now.base + layers + length claim.now.uncles ≤ max_height }
-    ensures digest { IfOk result (λ top. top ≡ path_digest H.digest claim.now (length claim.now.uncles)) }
+    ensures digest { IfOk result (λ top. top ≡ path_digest H.digest claim.now
+        (length claim.now.uncles)) }
     ensures pairs { OnOk result (pairs.new.items ≡ pairs.old.items
         ++ path_pairs H.digest claim.now (length claim.now.uncles)) }
 {

@@ -115,7 +115,8 @@ fn add_parents<H: NodeHash>(
 ) -> Result<(), AllocError>
     requires high { below < max_height }
     requires narrow { width ≤ max_block_count }
-    ensures { OnOk result ((n base : ℕ) (row : ℕ → List ℕ) → base ≤ below → width ≡ real_width n (below + 1)
+    ensures { OnOk result ((n base : ℕ) (row : ℕ → List ℕ) → base ≤ below → width ≡ real_width n
+        (below + 1)
         → padding.now ≡ padding_digest H.digest below
         → IsFilled H.digest n row base (below + 1) 0 (nodes_in nodes.old)
         → IsFilled H.digest n row base (below + 1) width (nodes_in nodes.new)) }
@@ -140,7 +141,8 @@ fn children(
     padding: &Hash32,
 ) -> Result<Vec<Hash32>, AllocError>
     requires { first + count ≤ 2 * max_block_count }
-    ensures { IfOk result (λ list. AreKnown (nodes_in nodes.now) layer first padding.now list.items count) }
+    ensures { IfOk result (λ list. AreKnown (nodes_in nodes.now) layer first padding.now
+        list.items count) }
 {
     let mut list = Vec::with_capacity(alloc, count as usize)?;
     for i in 0..count {

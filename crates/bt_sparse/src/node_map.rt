@@ -49,7 +49,8 @@ impl NodeMap {
 
     /// How many nodes of a layer in a row from this one on have a digest, as far as its page goes.
     pub(crate) fn held_run(&self, layer: u32, index: u32) -> u32
-        ensures held { (j : ℕ) → j < result → IsSome (digest_at (nodes_in self.now) layer (index + j)) }
+        ensures held { (j : ℕ) → j < result → IsSome (digest_at (nodes_in self.now) layer
+            (index + j)) }
         ensures none { result ≡ 0 → digest_at (nodes_in self.now) layer index ≡ None }
         ensures inside { index % page_length + result ≤ page_length }
     {
@@ -74,7 +75,8 @@ impl NodeMap {
     /// Lengthens the table to this many layers. New ones have no pages.
     #[tactic(auto, using(crate::proofs::PageTables::pushed_default))]
     fn lengthen(&mut self, count: usize) -> Result<(), AllocError>
-        ensures same { (layer : ℕ) → slice_index_or self.new layer [] ≡ slice_index_or self.old layer [] }
+        ensures same { (layer : ℕ) → slice_index_or self.new layer []
+            ≡ slice_index_or self.old layer [] }
         ensures ready { OnOk result (count ≤ length self.new) }
     {
         self.layers
@@ -89,7 +91,8 @@ impl NodeMap {
     pub(crate) fn put(&mut self, layer: u32, index: u32, digest: Hash32) -> bool
         requires { HasPlace self.old layer index }
         ensures is_new { IsTrue result ↔ (digest_at (nodes_in self.old) layer index ≡ None) }
-        ensures nodes { nodes_in self.new ≡ finite.insert (nodes_in self.old) (layer, index) digest }
+        ensures nodes { nodes_in self.new ≡ finite.insert (nodes_in self.old)
+            (layer, index) digest }
         ensures longer { KeepsPlaces self.old self.new }
     {
         self.layers[layer as usize].put(index, digest)
@@ -104,7 +107,8 @@ impl NodeMap {
         digest: Hash32,
     ) -> Result<(), AllocError>
         requires { index < width }
-        ensures { OnOk result (nodes_in self.new ≡ finite.insert (nodes_in self.old) (layer, index) digest) }
+        ensures { OnOk result (nodes_in self.new ≡ finite.insert (nodes_in self.old)
+            (layer, index) digest) }
     {
         self.reach(layer, index, width)?;
         self.put(layer, index, digest);

@@ -28,7 +28,12 @@ impl<H: NodeHash> Model for SparseTree<H> {
 
     ghost coded = { facts_code };
 
-    ghost view = { λ a. record { file_length = a.geometry; root = a.root; nodes = nodes_in a.nodes } };
+    ghost view = { λ a. record {
+      file_length = a.geometry;
+      root = a.root;
+      nodes = nodes_in
+          a.nodes;
+    } };
 
     ghost invariant = { λ a. IsSound H.digest
         record { file_length = a.geometry; root = a.root; nodes = nodes_in a.nodes } };

@@ -21,7 +21,8 @@ pub(crate) fn fold<H: NodeHash>(
     requires inside { layer ≤ height }
     requires high { height ≤ max_height }
     requires within { length digests.now ≤ 2 ^ (height - layer) }
-    requires pads { (k : ℕ) → k ≤ height → slice_index_or pads.now k [] ≡ padding_digest H.digest k }
+    requires pads { (k : ℕ) → k ≤ height → slice_index_or pads.now k []
+        ≡ padding_digest H.digest k }
     ensures { result ≡ fold_of H.digest (height - layer)
         (digests.now
         ++ replicate (2 ^ (height - layer) - length digests.now) (padding_digest H.digest layer)) }
@@ -50,7 +51,8 @@ fn eight_nodes<H: NodeHash>(
         → slice_index_or pads.now k [] ≡ padding_digest H.digest k }
     ensures { (row : ℕ → List ℕ)
         → ((i : ℕ) → i < length digests.now → slice_index_or digests.now i [] ≡ row i)
-        → ((i : ℕ) → length digests.now ≤ i → i < 16 * 2 ^ below → row i ≡ padding_digest H.digest layer)
+        → ((i : ℕ) → length digests.now ≤ i → i < 16 * 2 ^ below → row i
+        ≡ padding_digest H.digest layer)
         → (j : ℕ) → j < 8 → slice_index_or result j [] ≡ row_node H.digest row (below + 1) j }
 {
     if digests.is_empty() {
@@ -68,7 +70,8 @@ fn eight_nodes<H: NodeHash>(
 /// The digests of the parents of sixteen nodes that lie side by side, each pair digested with the others.
 pub fn eight_parents<H: NodeHash>(hash: H, nodes: &[Hash32; 16]) -> [Hash32; 8]
     ensures { (j : ℕ) → j < 8 → slice_index_or result j []
-        ≡ H.digest (slice_index_or nodes.now (2 * j) [] ++ slice_index_or nodes.now (2 * j + 1) []) }
+        ≡ H.digest (slice_index_or nodes.now (2 * j) [] ++ slice_index_or nodes.now
+        (2 * j + 1) []) }
 {
     let mut pairs = [[0; 64]; 8];
     for j in 0..8usize {
@@ -92,7 +95,8 @@ fn sixteen(digests: &[Hash32], padding: Hash32) -> [Hash32; 16]
     requires { length digests.now ≤ 16 }
     ensures given { (i : ℕ) → i < length digests.now
         → slice_index_or result i [] ≡ slice_index_or digests.now i [] }
-    ensures padding { (i : ℕ) → length digests.now ≤ i → i < 16 → slice_index_or result i [] ≡ padding }
+    ensures padding { (i : ℕ) → length digests.now ≤ i → i < 16 → slice_index_or result i []
+        ≡ padding }
 {
     let mut nodes = [padding; 16];
     for i in 0..digests.len() {
@@ -104,7 +108,8 @@ fn sixteen(digests: &[Hash32], padding: Hash32) -> [Hash32; 16]
 /// Sixteen digests: eight, and the eight after them.
 fn side_by_side(left: &[Hash32; 8], right: &[Hash32; 8]) -> [Hash32; 16]
     ensures left { (i : ℕ) → i < 8 → slice_index_or result i [] ≡ slice_index_or left.now i [] }
-    ensures right { (i : ℕ) → i < 8 → slice_index_or result (8 + i) [] ≡ slice_index_or right.now i [] }
+    ensures right { (i : ℕ) → i < 8 → slice_index_or result (8 + i) []
+        ≡ slice_index_or right.now i [] }
 {
     [
         left[0], left[1], left[2], left[3], left[4], left[5], left[6], left[7], right[0], right[1],
@@ -118,7 +123,8 @@ fn fold_pairs<H: NodeHash>(hash: H, digests: &[Hash32], layers: u8, padding: Has
     requires high { layers ≤ max_height }
     requires within { length digests.now ≤ 2 ^ layers }
     ensures { result
-        ≡ fold_of H.digest layers (digests.now ++ replicate (2 ^ layers - length digests.now) padding) }
+        ≡ fold_of H.digest layers (digests.now ++ replicate (2 ^ layers - length digests.now)
+        padding) }
 {
     let mut peaks = Peaks::new();
     peaks::add_all(hash, &mut peaks, 0, digests);

@@ -49,9 +49,12 @@ pub fn check_layer<H: NodeHash>(
     layer: u8,
     bytes: &[u8],
 ) -> Result<(), LayerError>
-    ensures variant { IsOk result ↔ IsLayer H.digest (block_count geometry) root.now layer bytes.now }
-    ensures size { (result ≡ Err LayerError.Size) ↔ (¬ HasLayerSize (block_count geometry) layer bytes.now) }
-    ensures differs { (result ≡ Err LayerError.Differs) ↔ (HasLayerSize (block_count geometry) layer bytes.now
+    ensures variant { IsOk result ↔ IsLayer H.digest (block_count geometry) root.now layer
+        bytes.now }
+    ensures size { (result ≡ Err LayerError.Size)
+        ↔ (¬ HasLayerSize (block_count geometry) layer bytes.now) }
+    ensures differs { (result ≡ Err LayerError.Differs)
+        ↔ (HasLayerSize (block_count geometry) layer bytes.now
         × (¬ IsLayer H.digest (block_count geometry) root.now layer bytes.now)) }
     ensures no_memory { result ≢ Err LayerError.OutOfMemory }
 {

@@ -17,7 +17,8 @@ pub(crate) fn add<H: NodeHash>(hash: H, peaks: &mut Peaks, count: u32, digest: H
     requires room { count < max_block_count }
     requires size { array_vec_len peaks.old ≡ peak_count max_height count }
     ensures size { array_vec_len peaks.new ≡ peak_count max_height (count + 1) }
-    ensures peaks { (row : ℕ → List ℕ) → peaks.old.items ≡ peaks_of H.digest row count → digest ≡ row count
+    ensures peaks { (row : ℕ → List ℕ) → peaks.old.items ≡ peaks_of H.digest row count → digest
+        ≡ row count
         → peaks.new.items ≡ peaks_of H.digest row (count + 1) }
 {
     let mut digest = digest;
@@ -62,7 +63,8 @@ pub(crate) fn close<H: NodeHash>(
     requires within { count ≤ 2 ^ layers }
     requires size { length peaks.now ≡ peak_count max_height count }
     ensures { (row : ℕ → List ℕ) → peaks.now ≡ peaks_of H.digest row count
-        → ((i : ℕ) → count ≤ i → i < 2 ^ layers → row i ≡ padding) → result ≡ row_node H.digest row layers 0 }
+        → ((i : ℕ) → count ≤ i → i < 2 ^ layers → row i ≡ padding) → result
+        ≡ row_node H.digest row layers 0 }
 {
     if count == 1 << layers {
         return peaks[0];

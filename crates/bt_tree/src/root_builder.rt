@@ -42,7 +42,8 @@ impl<H: NodeHash> Model for RootBuilder<H> {
 
     ghost view = { λ b. state_of b.geometry b.layer b.index b.count b.peaks.items };
 
-    ghost invariant = { λ b. IsSound (state_of b.geometry b.layer b.index b.count b.peaks.items) b.blocks };
+    ghost invariant = { λ b. IsSound (state_of b.geometry b.layer b.index b.count b.peaks.items)
+        b.blocks };
 }
 
 impl<H: NodeHash> RootBuilder<H> {
@@ -87,7 +88,8 @@ impl<H: NodeHash> RootBuilder<H> {
 
         // However the bytes were cut into runs, a builder that took as many blocks of the same file is the
         // same.
-        ensures cut { OnOk result ((file : List ℕ) (other : BuilderState) → BuildsFrom H.digest self.new file
+        ensures cut { OnOk result ((file : List ℕ) (other : BuilderState)
+            → BuildsFrom H.digest self.new file
             → BuildsFrom H.digest other file → IsAsFar other self.new → other ≡ self.new) }
         ensures err { OnErr result (self.new ≡ self.old) }
     {
@@ -134,7 +136,8 @@ impl<H: NodeHash> RootBuilder<H> {
 fn push_blocks<H: NodeHash>(hash: H, peaks: &mut Peaks, count: u32, run: &[u8])
     requires room { count + block_count (length run.now) ≤ max_block_count }
     requires size { array_vec_len peaks.old ≡ peak_count max_height count }
-    ensures size { array_vec_len peaks.new ≡ peak_count max_height (count + block_count (length run.now)) }
+    ensures size { array_vec_len peaks.new ≡ peak_count max_height
+        (count + block_count (length run.now)) }
     ensures peaks { (file : List ℕ) (first : ℕ)
         → peaks.old.items ≡ file_peaks H.digest file first count
         → IsBlocksOf file (first + count) run.now
@@ -155,7 +158,8 @@ fn push_blocks<H: NodeHash>(hash: H, peaks: &mut Peaks, count: u32, run: &[u8])
 fn push_each<H: NodeHash>(hash: H, peaks: &mut Peaks, count: u32, run: &[u8])
     requires room { count + block_count (length run.now) ≤ max_block_count }
     requires size { array_vec_len peaks.old ≡ peak_count max_height count }
-    ensures size { array_vec_len peaks.new ≡ peak_count max_height (count + block_count (length run.now)) }
+    ensures size { array_vec_len peaks.new ≡ peak_count max_height
+        (count + block_count (length run.now)) }
     ensures peaks { (file : List ℕ) (first : ℕ)
         → peaks.old.items ≡ file_peaks H.digest file first count
         → IsBlocksOf file (first + count) run.now

@@ -9,10 +9,10 @@ use Rattle.bt_connection.proofs.messages.cut_messages.Goals as goal
 
 pub returns-then-may_carry_block-clause-leads : goal.returns-then-may_carry_block-clause-leads
 returns-then-may_carry_block-clause-leads g c =
-    let found = c.whole_messages-run.ensures in
+    let found = c.whole_messages-messages.ensures in
     let bytes = c.args.bytes.now in
     let begin = c.min-begin.result in
-    let count = c.whole_messages-run.result.len in
+    let count = c.whole_messages-messages.result.len in
     let behind = take_rest bytes begin in
     leads_cut bytes c.args.owed begin count c.min-begin.ensures
     (subst (λ (b : List ℕ). count ≤ length b) behind found.within)
@@ -20,11 +20,11 @@ returns-then-may_carry_block-clause-leads g c =
 
 pub returns-clause-leads : goal.returns-clause-leads
 returns-clause-leads g c =
-    let found = c.whole_messages-run.ensures in
+    let found = c.whole_messages-messages.ensures in
     let bytes = c.args.bytes.now in
     let owed = c.args.owed in
     let begin = c.min-begin.result in
-    let count = c.whole_messages-run.result.len in
+    let count = c.whole_messages-messages.result.len in
     let front = take_rest bytes begin in
     let behind = take_rest bytes (begin + count) in
     let four : 4 ≤ length (drop (begin + count) bytes)
@@ -49,20 +49,20 @@ returns-clause-leads g c =
 
 pub returns-then-may_carry_block-clause-long : goal.returns-then-may_carry_block-clause-long
 returns-then-may_carry_block-clause-long g c =
-    let found = c.whole_messages-run.ensures in
-    let run = c.whole_messages-run.result in
+    let found = c.whole_messages-messages.ensures in
+    let messages = c.whole_messages-messages.result in
     let bytes = c.args.bytes.now in
     let begin = c.min-begin.result in
-    long_behind bytes begin run.len run.blocks (omega (arith, c.min-begin.ensures))
-    (subst (λ (b : List ℕ). All (IsLongAt b run.len) run.blocks) (take_rest bytes begin) found.long) (begin + run.len) (omega arith)
+    long_behind bytes begin messages.len messages.blocks (omega (arith, c.min-begin.ensures))
+    (subst (λ (b : List ℕ). All (IsLongAt b messages.len) messages.blocks) (take_rest bytes begin) found.long) (begin + messages.len) (omega arith)
 
 pub returns-clause-long : goal.returns-clause-long
 returns-clause-long g c =
-    let found = c.whole_messages-run.ensures in
-    let run = c.whole_messages-run.result in
+    let found = c.whole_messages-messages.ensures in
+    let messages = c.whole_messages-messages.result in
     let bytes = c.args.bytes.now in
     let begin = c.min-begin.result in
-    let within = subst (λ (b : List ℕ). run.len ≤ length b) (take_rest bytes begin) found.within in
-    long_behind bytes begin run.len run.blocks (omega (arith, c.min-begin.ensures))
-    (subst (λ (b : List ℕ). All (IsLongAt b run.len) run.blocks) (take_rest bytes begin) found.long) (length bytes)
+    let within = subst (λ (b : List ℕ). messages.len ≤ length b) (take_rest bytes begin) found.within in
+    long_behind bytes begin messages.len messages.blocks (omega (arith, c.min-begin.ensures))
+    (subst (λ (b : List ℕ). All (IsLongAt b messages.len) messages.blocks) (take_rest bytes begin) found.long) (length bytes)
     (omega (arith, within, c.min-begin.ensures, length-drop begin bytes))
