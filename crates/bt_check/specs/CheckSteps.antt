@@ -20,7 +20,8 @@ IsBare known piece k = (layer i : ℕ) → layer < known.layer → piece * 2 ^ k
     → i * 2 ^ layer < (piece + 1) * 2 ^ known.layer → held_at k layer i ≡ None
 
 -- Of the tree over a file of n bytes this layer is held, and the leaves that are known; below the piece of a
--- block whose leaf is not known there is nothing.
+-- block whose leaf is not known there is nothing. A check learns leaves as it reads, and this holds before it
+-- and after it; `IsTreeFrom` of bt_machine says which nodes a torrent's file begins with in the machine.
 pub record HoldsLeaves (n : ℕ) (known : KnownLayer) (leaves : ℕ → Option (List ℕ)) (k : Facts) : Type 0 where
   pub length_is : k.file_length ≡ n
   pub inside : known.layer ≤ height_of (block_count n)

@@ -15,7 +15,7 @@ use bt_disk::Disk;
 use bt_meta::FileEntry;
 use bt_sparse::SparseTree;
 use bt_store::FileStore;
-use bt_tree::{Geometry, LayerError};
+use bt_tree::Geometry;
 use std::alloc::{AllocError, Global};
 
 /// What a check found of a data file, and its device.
@@ -161,7 +161,7 @@ fn check_blocks<D: Disk + Drop>(
     })
 }
 
-/// The tree of a file as far as a torrent tells it: down to the layer of its pieces, or the root alone.
+/// The tree of a file as a torrent tells it: down to the layer of its pieces, or the root alone. Errors: out of memory.
 pub fn known_tree(
     alloc: Global,
     geometry: Geometry,
@@ -174,20 +174,6 @@ pub fn known_tree(
     ensures { IfOk result (HoldsLeaves geometry (known_layer size.layer (file_of entry.now))
         no_leaves) }
 {
-    if entry.layer.is_empty() {
-        return SparseTree::new(alloc, FileHash, geometry, entry.root);
-    }
-    match SparseTree::with_layer(
-        alloc,
-        FileHash,
-        geometry,
-        entry.root,
-        size.layer,
-        &entry.layer,
-    ) {
-        Ok(tree) => Ok(tree),
-        Err(LayerError::OutOfMemory) => Err(AllocError),
-        // the layers of a torrent that was read are those of its files
-        Err(LayerError::Size | LayerError::Differs) => unreachable!(),
-    }
+    let layer = size.layer;
+    SparseTree::from_torrent(alloc, FileHash, geometry, entry.root, layer, &entry.layer)
 }

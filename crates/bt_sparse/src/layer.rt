@@ -1,6 +1,6 @@
 //! A tree made from the digests of one layer, as a torrent's `piece layers` have them (BEP 52): all layers
 //! above it are computed.
-ghost use Rattle.std.specs.Prelude.{◌≡◌, ℕ, ◌+◌, ◌-◌, ◌*◌, ◌<◌, ◌≤◌, ◌↔◌, List, IfOk, OnOk, length, slice_index_or, []};
+ghost use Rattle.std.specs.Prelude.{◌≡◌, ◌≢◌, ℕ, ◌+◌, ◌-◌, ◌*◌, ◌<◌, ◌≤◌, ◌↔◌, List, IfOk, OnOk, length, slice_index_or, []};
 ghost use Rattle.bt_tree.specs.Limits.{max_height, max_block_count};
 ghost use Rattle.bt_tree.specs.Blocks.{block_count};
 ghost use Rattle.bt_tree.specs.TreeShape.{height_of, real_width};
@@ -8,7 +8,7 @@ ghost use Rattle.bt_tree.specs.Tree.{padding_digest};
 ghost use Rattle.bt_tree.specs.Peaks.{row_node};
 ghost use Rattle.bt_tree.specs.Layers.{IsLayer, HasLayerSize};
 ghost use Rattle.bt_sparse.specs.NodeMap.{nodes_in};
-ghost use Rattle.bt_sparse.specs.Layer.{HoldsLayer};
+ghost use Rattle.bt_sparse.specs.Layer.{HoldsLayer, IsToldTree};
 ghost use Rattle.bt_sparse.specs.LayerSteps.{AreKnown, IsFilled, IsWhole};
 
 use crate::expansion::parents;
@@ -39,13 +39,49 @@ impl<H: NodeHash> SparseTree<H> {
             ↔ (HasLayerSize (block_count geometry) layer bytes.now
             × (¬ IsLayer H.digest (block_count geometry) root layer bytes.now)) }
     {
+        check_layer(hash, geometry, &root, layer, bytes)?;
+        match SparseTree::from_layer(alloc, hash, geometry, root, layer, bytes) {
+            Ok(tree) => Ok(tree),
+            Err(AllocError) => Err(LayerError::OutOfMemory),
+        }
+    }
+
+    /// The tree of a file as a torrent tells it (BEP 52): down to the layer of these bytes, as `with_layer` has
+    /// them, or, where there are none, the root alone. That they give the root was seen when the torrent was
+    /// read, and is not looked at again. An error is out of memory.
+    pub fn from_torrent(
+        alloc: Global,
+        hash: H,
+        geometry: Geometry,
+        root: Hash32,
+        layer: u8,
+        bytes: &[u8],
+    ) -> Result<SparseTree<H>, AllocError>
+        requires { bytes.now ≢ [] → IsLayer H.digest (block_count geometry) root layer bytes.now }
+        ensures { IfOk result (IsToldTree H.digest geometry root layer bytes.now) }
+    {
+        if bytes.is_empty() {
+            return SparseTree::new(alloc, hash, geometry, root);
+        }
+        SparseTree::from_layer(alloc, hash, geometry, root, layer, bytes)
+    }
+
+    /// The tree of a file of which these bytes are a layer.
+    fn from_layer(
+        alloc: Global,
+        hash: H,
+        geometry: Geometry,
+        root: Hash32,
+        layer: u8,
+        bytes: &[u8],
+    ) -> Result<SparseTree<H>, AllocError>
+        requires { IsLayer H.digest (block_count geometry) root layer bytes.now }
+        ensures { IfOk result (HoldsLayer H.digest geometry root layer bytes.now) }
+    {
         // A geometry's length is lawful: its clause says so.
         let _ = geometry.length();
-        check_layer(hash, geometry, &root, layer, bytes)?;
         let (digests, _) = bytes.as_chunks::<32>();
-        let Ok(nodes) = nodes_from(alloc, hash, geometry, layer, digests) else {
-            return Err(LayerError::OutOfMemory);
-        };
+        let nodes = nodes_from(alloc, hash, geometry, layer, digests)?;
         Ok(SparseTree {
             alloc,
             hash,

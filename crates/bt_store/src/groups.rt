@@ -66,15 +66,19 @@ pub(crate) fn known_batch<H: NodeHash>(tree: &SparseTree<H>, from: u32) -> u32
     8
 }
 
-/// Blocks that lie next to each other.
+/// Blocks of a file that lie next to each other.
 #[derive(Clone, Copy)]
-pub(crate) struct Group {
-    pub(crate) first: u32,
-    pub(crate) count: u32,
+pub struct Group {
+    /// The number of the first block in its file.
+    pub first: u32,
+    /// How many blocks these are.
+    pub count: u32,
 }
 
-/// The blocks below the nearest node above a leaf that is held, which lies in this layer.
-pub(crate) fn group_below<H: NodeHash>(tree: &SparseTree<H>, from: u32, anchor: u32) -> Group
+/// The group of a block whose leaf is not known, which `FileStore::adopt` takes in whole: the blocks below
+/// the nearest node above that leaf that is held. The node lies in layer `anchor`, as `SparseTree::anchor`
+/// tells.
+pub fn group_below<H: NodeHash>(tree: &SparseTree<H>, from: u32, anchor: u32) -> Group
     requires inside { from < blocks_of tree.now }
     requires nearest { IsAnchor tree.now from anchor }
     requires above { 0 < anchor }

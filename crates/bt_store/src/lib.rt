@@ -21,6 +21,7 @@ pub use arrival::Put;
 pub use block_states::BlockState;
 pub use error::{ReadError, Refused, StoreError};
 pub use file_store::FileStore;
+pub use groups::{Group, group_below};
 pub use law::{
     accepted_reads_are_right, adopt_extends, adopt_marks_by_bytes, reads_decide_each,
     recalled_blocks_are_restored, right_blocks_are_files, waiting_blocks_lie_inside,
