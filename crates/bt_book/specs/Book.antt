@@ -1,8 +1,8 @@
 -- A request book: the blocks that are wanted, the peers, and what each of them is asked for.
-use Rattle.std.specs.Prelude.{◌≡◌, ◌≢◌, ℕ, ◌<◌, ◌≤◌, ◌==◌, Bool, true, false, not, if◌then◌else◌, List, [], ◌∷◌, ◌++◌, length, map, replicate, filter, count_by, sum_by, slice_index_or, take, ◌⊎◌}
+use Rattle.std.specs.Prelude.{◌≡◌, ◌≢◌, ℕ, ◌<◌, ◌≤◌, ◌==◌, Bool, true, false, not, if◌then◌else◌, List, [], ◌∷◌, ◌++◌, length, map, replicate, filter, count_by, sum_by, slice_index_or, take, ◌⊎◌, Option}
 use Rattle.bt_book.specs.declared.names.PeerKey.{PeerKey}
 use Rattle.bt_book.specs.declared.names.BlockId.{BlockId}
-use Rattle.bt_book.specs.Blocks.{Blocks, member, member_count, with_block, is_block, IsBefore, says}
+use Rattle.bt_book.specs.Blocks.{Blocks, member, member_count, with_block, is_block, IsBefore, GivesFirst, says}
 
 -- the blocks that a peer is asked for, in the order of asking
 pub record PeerRequests : Type 0 where
@@ -160,6 +160,12 @@ pub data IsNextAsked (has : BlockId → Bool → Type 0) (book : BookState) (key
 -- of every block that may be asked of the peer `has` says false
 abbrev pub HasNoneToAsk : (BlockId → Bool → Type 0) → BookState → PeerKey → Type 0
 HasNoneToAsk has book key = (c : BlockId) → CanAsk book key c → has c false
+
+-- The peer may be asked for no more: it has not joined, or is asked for as many as may be, or no block is left that
+-- it has and may be asked for, where `next` tells the first one that it has, from each block on.
+abbrev pub HasAskedAll : (BlockId → Option BlockId → Type 0) → BookState → PeerKey → Type 0
+HasAskedAll next book key = (¬ IsJoined book key) ⊎ (length (asked_of book key) ≡ max_requests)
+    ⊎ ((has : BlockId → Bool) → GivesFirst next book.wanted has → HasNoneToAsk (says has) book key)
 
 -- each of these blocks is the one that the peer is asked for next once it is asked for those before it
 abbrev pub AreAskedInTurn : (BlockId → Bool) → BookState → PeerKey → List BlockId → Type 0

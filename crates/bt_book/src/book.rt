@@ -1,10 +1,9 @@
 //! The request book: which blocks are wanted, which peers are asked for which of them, and which block a peer
 //! is asked for next.
 ghost use Rattle.std.specs.Prelude.{◌≡◌, ◌<◌, ◌≤◌, ◌+◌, ◌^◌, ◌↔◌, ◌⊎◌, Bool, true, false, [], ◌∷◌, ◌++◌, ◌==◌, ◌≢◌, not, length, map, filter, All, Contains, count_by, sum, if◌then◌else◌, Option, Some, IsTrue, IfSome, OnSome, IfNone, IfOk};
-ghost use Rattle.std.specs.List.{AllPairs};
 ghost use Rattle.std.specs.Bool.{OnTrue, OnFalse};
 ghost use Rattle.bt_book.specs.Blocks.{IsInRange, is_block, with_block, says, GivesFirst};
-ghost use Rattle.bt_book.specs.Book.{IsJoined, CanAsk, IsShareable, peers_of, empty_book, full_book, asked_of, with_peer, without_peer, with_pair, with_pairs, without_pair, without_pairs_of, with_wanted, with_done, without_block, without_block_of, IsNextAsked, HasNoneToAsk, IsLeastShareable, AreAskedInTurn, HasWanted, HasNoneWanted, IsBook, IsPair, pair_count, pairs_in, KeepsOthers, max_peers, max_requests};
+ghost use Rattle.bt_book.specs.Book.{IsJoined, CanAsk, IsShareable, peers_of, empty_book, full_book, asked_of, with_peer, without_peer, with_pair, with_pairs, without_pair, without_pairs_of, with_wanted, with_done, without_block, without_block_of, IsNextAsked, HasNoneToAsk, HasAskedAll, IsLeastShareable, AreAskedInTurn, HasWanted, HasNoneWanted, IsBook, IsPair, pair_count, pairs_in, KeepsOthers, max_peers, max_requests};
 ghost use Rattle.bt_book.specs.Choking.{IsAscending};
 ghost use Rattle.bt_book.specs.BookSteps.{AreFreed, CanJoin, HasEachOnce, IsIndexOf, HasRoomAt};
 
@@ -280,10 +279,7 @@ impl Book {
         ensures peers { peers_of self.new ≡ peers_of self.old }
         ensures joined { OnSome result (IsJoined self.old peer) }
         ensures room { OnSome result (length (asked_of self.old peer) < max_requests) }
-        ensures none { IfNone result ((¬ IsJoined self.old peer)
-            ⊎ (length (asked_of self.old peer) ≡ max_requests)
-            ⊎ ((has : BlockId → Bool) → GivesFirst (F.post next) self.old.wanted has
-            → HasNoneToAsk (says has) self.old peer)) }
+        ensures none { IfNone result (HasAskedAll (F.post next) self.old peer) }
         ensures kept { IfNone result (self.new ≡ self.old) }
     {
         let index = self.index_with_room(peer)?;
@@ -293,8 +289,8 @@ impl Book {
     }
 
     /// Asks a peer for wanted blocks that it has, one after the other as `ask` does, until it is asked for 16
-    /// or there is none left, and gives these blocks: none where it has not joined. `next` is as for
-    /// `ask_next`.
+    /// or there is none left, and gives these blocks, each once: none where it has not joined. `next` is as
+    /// for `ask_next`.
     pub fn ask_all<F: Fn(BlockId) -> Option<BlockId>>(
         &mut self,
         peer: PeerKey,
@@ -302,20 +298,11 @@ impl Book {
     ) -> ArrayVec<BlockId, MAX_REQUESTS>
         requires { (block : BlockId) → IsInRange self.old.wanted block → F.pre next block }
         ensures now { self.new ≡ with_pairs self.old peer result.items }
-        ensures asked { asked_of self.new peer ≡ asked_of self.old peer ++ result.items }
-        ensures others { KeepsOthers self.old self.new peer }
-        ensures peers { peers_of self.new ≡ peers_of self.old }
+        ensures joined { result.items ≢ [] → IsJoined self.old peer }
         ensures can { All (CanAsk self.old peer) result.items }
-        ensures distinct { AllPairs (λ b c. b ≢ c) result.items }
         ensures turns { (has : BlockId → Bool) → GivesFirst (F.post next) self.old.wanted has
             → AreAskedInTurn has self.old peer result.items }
-        ensures held { (has : BlockId → Bool) → GivesFirst (F.post next) self.old.wanted has
-            → All (λ block. has block ≡ true) result.items }
-        ensures all { (¬ IsJoined self.old peer)
-            ⊎ (length (asked_of self.old peer) + length result.items ≡ max_requests)
-            ⊎ ((has : BlockId → Bool) → GivesFirst (F.post next) self.old.wanted has
-            → (block : BlockId) → CanAsk self.old peer block → has block ≡ true
-            → Contains result.items block) }
+        ensures all { HasAskedAll (F.post next) self.new peer }
     {
         let mut blocks = ArrayVec::new();
         self.keeps_laws();

@@ -1,12 +1,11 @@
 //! The turns of a session: what a reader gives is fed, its wire events are taken, the peers to serve are
 //! chosen anew; and what these send is written.
-ghost use Rattle.std.specs.Prelude.{◌+◌, ◌≢◌, ℕ, List, Option, IfOk, IfErr, OnOk};
-ghost use Rattle.bt_machine.specs.declared.event.Event.TheVariants.{Next, Rechoke};
+ghost use Rattle.std.specs.Prelude.{◌≢◌, IfOk, IfErr, OnOk};
 ghost use Rattle.bt_session.specs.declared.end.SessionEnd.TheVariants.{ReadFault, WriteFault};
 ghost use Rattle.bt_session.specs.Failures.{OnlyAfterFailure, StaysFlushed};
 ghost use Rattle.bt_session.specs.Progress.{place};
 ghost use Rattle.bt_session.specs.Ends.{IsBetweenTurns};
-ghost use Rattle.bt_session.specs.Parts.{Awaits, IsTurnOver, IsPart, event_after, EndsAfter};
+ghost use Rattle.bt_session.specs.Parts.{AwaitsWireEvent, AwaitsChoice, AwaitsAfter, IsTurnOver, one_more_turn, IsPart, WritesPart, ReadsPart, EndsAfter};
 ghost use Rattle.bt_session.specs.PeerSteps.{IsAlone, HasNoOther, StaysAlone};
 
 use crate::buffers::SessionBuffers;
@@ -39,8 +38,8 @@ pub(crate) fn take_turn<D: Disk + Drop, H: NodeHash, R: WatchedReader, W: Watche
     buffers: &mut SessionBuffers,
 ) -> Result<(), SessionEnd>
     requires alone { IsAlone partner.key engine.old.state }
-    ensures part { IsPart D.conduct H.digest partner.key partner.until_complete
-        (IsBetweenTurns partner.until_complete) (λ turns. turns + 1)
+    ensures part { IsPart D.conduct H.digest partner
+        (IsBetweenTurns partner.until_complete) one_more_turn
         (place engine.old (R.remaining reader.old) (W.contents writer.old)) result
         (λ _. IsTurnOver)
         (place engine.new (R.remaining reader.new) (W.contents writer.new)) }
@@ -63,12 +62,9 @@ fn receive<D: Disk + Drop, H: NodeHash, R: WatchedReader>(
     incoming: &mut Incoming,
 ) -> Result<(), SessionEnd>
     requires alone { IsAlone partner.key engine.old.state }
-    ensures part { (contents : Option (List ℕ))
-        → IsPart D.conduct H.digest partner.key partner.until_complete
-        (IsBetweenTurns partner.until_complete) (λ turns. turns + 1)
-        (place engine.old (R.remaining reader.old) contents) result
-        (λ _. Awaits partner.key partner.until_complete (Next partner.key))
-        (place engine.new (R.remaining reader.new) contents) }
+    ensures part { ReadsPart D.conduct H.digest partner (IsBetweenTurns partner.until_complete)
+        engine.old (R.remaining reader.old) result (λ _. AwaitsWireEvent partner)
+        engine.new (R.remaining reader.new) }
     ensures alone { IsAlone partner.key engine.new.state }
     ensures read_fault { IfErr result (OnlyAfterFailure ReadFault (R.has_failed reader.new)) }
     ensures no_write_fault { IfErr result (λ end. end ≢ WriteFault) }
@@ -91,12 +87,9 @@ fn take_events<D: Disk + Drop, H: NodeHash, W: WatchedWriter>(
     buffers: &mut SessionBuffers,
 ) -> Result<(), SessionEnd>
     requires alone { IsAlone partner.key engine.old.state }
-    ensures part { (remaining : Option (List ℕ))
-        → IsPart D.conduct H.digest partner.key partner.until_complete
-        (Awaits partner.key partner.until_complete (Next partner.key)) (λ turns. turns)
-        (place engine.old remaining (W.contents writer.old)) result
-        (λ _. Awaits partner.key partner.until_complete Rechoke)
-        (place engine.new remaining (W.contents writer.new)) }
+    ensures part { WritesPart D.conduct H.digest partner (AwaitsWireEvent partner)
+        engine.old (W.contents writer.old) result (λ _. AwaitsChoice partner)
+        engine.new (W.contents writer.new) }
     ensures alone { OnOk result (IsAlone partner.key engine.new.state) }
     ensures no_other { HasNoOther partner.key engine.new.state }
     ensures write_fault { IfErr result (OnlyAfterFailure WriteFault (W.has_failed writer.new)) }
@@ -116,12 +109,9 @@ fn take_event<D: Disk + Drop, H: NodeHash, W: WatchedWriter>(
     buffers: &mut SessionBuffers,
 ) -> Result<bool, SessionEnd>
     requires alone { IsAlone partner.key engine.old.state }
-    ensures part { (remaining : Option (List ℕ))
-        → IsPart D.conduct H.digest partner.key partner.until_complete
-        (Awaits partner.key partner.until_complete (Next partner.key)) (λ turns. turns)
-        (place engine.old remaining (W.contents writer.old)) result
-        (λ more. Awaits partner.key partner.until_complete (event_after partner.key more))
-        (place engine.new remaining (W.contents writer.new)) }
+    ensures part { WritesPart D.conduct H.digest partner (AwaitsWireEvent partner)
+        engine.old (W.contents writer.old) result (AwaitsAfter partner)
+        engine.new (W.contents writer.new) }
     ensures stays { IfOk result (StaysAlone partner.key engine.old.state engine.new.state) }
     ensures no_other { HasNoOther partner.key engine.new.state }
     ensures write_fault { IfErr result (OnlyAfterFailure WriteFault (W.has_failed writer.new)) }
@@ -167,12 +157,9 @@ fn choose<D: Disk + Drop, H: NodeHash, W: WatchedWriter>(
     buffers: &mut SessionBuffers,
 ) -> Result<(), SessionEnd>
     requires alone { IsAlone partner.key engine.old.state }
-    ensures part { (remaining : Option (List ℕ))
-        → IsPart D.conduct H.digest partner.key partner.until_complete
-        (Awaits partner.key partner.until_complete Rechoke) (λ turns. turns)
-        (place engine.old remaining (W.contents writer.old)) result
-        (λ _. IsTurnOver)
-        (place engine.new remaining (W.contents writer.new)) }
+    ensures part { WritesPart D.conduct H.digest partner (AwaitsChoice partner)
+        engine.old (W.contents writer.old) result (λ _. IsTurnOver)
+        engine.new (W.contents writer.new) }
     ensures alone { IsAlone partner.key engine.new.state }
     ensures write_fault { IfErr result (OnlyAfterFailure WriteFault (W.has_failed writer.new)) }
     ensures no_read_fault { IfErr result (λ end. end ≢ ReadFault) }

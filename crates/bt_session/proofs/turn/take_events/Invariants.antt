@@ -1,9 +1,8 @@
 -- The peer is there, and so far the session goes on.
 use Rattle.std.proofs.Common.{ℕ, List, Option}
-use Rattle.bt_machine.specs.declared.event.Event.TheVariants.{Next}
 use Rattle.bt_session.specs.declared.flushing.Flushing.{Flushing}
 use Rattle.bt_session.specs.Progress.{Place, place}
-use Rattle.bt_session.specs.Parts.{GoesOn, Awaits}
+use Rattle.bt_session.specs.Parts.{GoesOn, AwaitsWireEvent}
 use Rattle.bt_session.specs.PeerSteps.{IsAlone, unread_count}
 use Rattle.bt_session.proofs.turn.take_events.Given as goal
 
@@ -12,9 +11,9 @@ invariant-loop g l = record {
   alone : IsAlone l.partner.key l.engine.state;
   goes : (remaining : Option (List ℕ)) (flushing : Flushing) (taken : ℕ) (first : Place g.row.D.Denot)
       → GoesOn g.D.Disk.conduct g.H.NodeHash.digest l.partner.key l.partner.until_complete flushing
-      (Awaits l.partner.key l.partner.until_complete (Next l.partner.key)) first taken (place l.initial.engine remaining (g.W.Write.contents l.initial.writer))
+      (AwaitsWireEvent l.partner) first taken (place l.initial.engine remaining (g.W.Write.contents l.initial.writer))
       → GoesOn g.D.Disk.conduct g.H.NodeHash.digest l.partner.key l.partner.until_complete flushing
-      (Awaits l.partner.key l.partner.until_complete (Next l.partner.key)) first taken (place l.engine remaining (g.W.Write.contents l.writer));
+      (AwaitsWireEvent l.partner) first taken (place l.engine remaining (g.W.Write.contents l.writer));
   flushed : g.W.WatchedWriter.is_flushed l.initial.writer → g.W.WatchedWriter.is_flushed l.writer;
 }
 
