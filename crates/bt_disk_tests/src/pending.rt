@@ -4,7 +4,7 @@ use crate::bytes::tell_whether;
 use crate::hints::{proof_from, run_from};
 use crate::logs::Log;
 use bt_disk::Disk;
-use bt_engine_pending::{FlushError, Pending};
+use bt_engine_state::{FlushError, Pending};
 use bt_resume::{Hint, ResumeLog};
 use bt_rows::{RowError, Words, tell};
 use std::alloc::{AllocError, Global};

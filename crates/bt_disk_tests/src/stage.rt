@@ -7,7 +7,7 @@ use crate::shop::{Shop, shop_row};
 use crate::store::{Store, store_row};
 use crate::system::Counts;
 use bt_devices::Seal;
-use bt_engine_pending::Pending;
+use bt_engine_state::Pending;
 use bt_rows::{RowError, Rows, Words, put, whole_answer};
 use std::alloc::{AllocError, Global};
 

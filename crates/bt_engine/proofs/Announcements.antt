@@ -1,6 +1,8 @@
 -- What is said of each number of an event's notes, one note after the other.
-use Rattle.bt_machine.proofs.Base.{[], ◌≡◌, ℕ, ◌+◌, ◌<◌, ◌≤◌, Bool, true, false, cond, List, ◌∷◌, ◌++◌, length, map, flat_map, filter, drop, get_or, Option, Some, None, refl, sym, ap, ◌∙◌, arith, slice_get, if◌then◌else◌, option_map_or, range_with_len, append-nil, length-append, get_or_append_left, get_or-range_with_len, length-range_with_len, total_pieces}
-use Rattle.std.specs.Prelude.{◌==◌}
+use Rattle.bt_machine.proofs.Base.{[], ◌≡◌, ℕ, ◌+◌, ◌<◌, ◌≤◌, Bool, true, false, List, ◌∷◌, ◌++◌, length, map, flat_map, drop, get_or, Option, Some, None, refl, sym, ap, ◌∙◌, arith, slice_get, if◌then◌else◌, option_map_or, range_with_len, append-nil, length-append, get_or_append_left, get_or-range_with_len, length-range_with_len, total_pieces}
+use Rattle.std.specs.Prelude.{◌==◌, filter_map}
+use Rattle.std.specs.List.{cons_option}
+use Rattle.std.specs.Option.{option_or}
 use Rattle.std.proofs.Common.{append_assoc, add-one}
 use Rattle.std.proofs.Math.Seq.{drop-cons}
 use Rattle.std.proofs.lemmas.List.{drop_all}
@@ -8,7 +10,6 @@ use Rattle.bt_book.specs.Book.{BookState}
 use Rattle.bt_wire.specs.declared.message.Message.TheVariants.{Have}
 use Rattle.bt_machine.specs.declared.answer.Frame.TheVariants.{Message as message_frame}
 use Rattle.bt_machine.specs.declared.answer.Note.{Note}
-use Rattle.bt_machine.specs.declared.answer.Note.TheVariants.{Complete}
 use Rattle.bt_machine.specs.State.{EngineState}
 use Rattle.bt_machine.specs.Blocks.{is_whole, piece_numbers}
 use Rattle.bt_machine.specs.Output.{Sent, sent_to}
@@ -18,8 +19,7 @@ use Rattle.bt_engine_state.specs.Ties.{AreUnmarked}
 use Rattle.bt_engine_state.specs.declared.peer.Peer.{Peer}
 use Rattle.bt_engine_state.proofs.Lists.{get_mapped, get_at}
 use Rattle.bt_engine_state.proofs.Wholes.{wholes_are}
-use Rattle.bt_engine.specs.NewsSteps.{unless_last}
-use Rattle.bt_engine.proofs.NewWholes.{numbers_after, numbers_next}
+use Rattle.bt_engine.specs.NewsSteps.{unless_last, without_repeats}
 
 -- the number that is left is the note's
 pub unless_some : (o last : Option ℕ) {k : ℕ} → unless_last o last ≡ Some k → o ≡ Some k
@@ -30,46 +30,49 @@ unless_some (Some n) last {k} e = by (option_map_or (λ m. m == n) last false) e
     by true e = absurd cc
     by false e = e
 
--- ---- what is said of the numbers that meet a test
+-- ---- what is said of the numbers of notes
 
-module _ {X : Type 0} (test : ℕ → Bool) (emit : ℕ → List X) where
-  abbrev pub told : List ℕ → List X
-  told ks = flat_map emit (filter test ks)
+-- of numbers the first is left, where it is another than the last one before it
+first_left : (o last : Option ℕ) (ns : List ℕ)
+    → without_repeats last (cons_option o ns) ≡ cons_option (unless_last o last) (without_repeats (option_or (unless_last o last) last) ns)
+first_left None last ns = refl
+first_left (Some n) last ns = by (option_map_or (λ m. m == n) last false)
+  where
+    by : (t : Bool) → (if t then without_repeats last ns else n ∷ without_repeats (Some n) ns)
+        ≡ cons_option (if t then None else Some n) (without_repeats (option_or (if t then None else Some n) last) ns)
+    by true = refl
+    by false = refl
 
-  told_first : (k : ℕ) (ks : List ℕ) → told (k ∷ ks) ≡ (if test k then emit k else []) ++ told ks
-  told_first k ks = by (test k)
-    where
-      by : (t : Bool) → flat_map emit (cond t (k ∷ filter test ks) (filter test ks)) ≡ (if t then emit k else []) ++ flat_map emit (filter test ks)
-      by true = refl
-      by false = refl
+module _ {X : Type 0} (tell : ℕ → List X) (f : Note → Option ℕ) where
+  -- what is said of notes after this last number
+  abbrev pub said : Option ℕ → List Note → List X
+  said last notes = flat_map tell (without_repeats last (filter_map f notes))
 
-  module _ (f : Note → Option ℕ) (last : Option ℕ) (notes : List Note) where
+  module _ (last : Option ℕ) (notes : List Note) where
     module _ (i : ℕ) (d : Note) (items all : List X) (lt : i < length notes) where
-      numbers_at : {o : Option ℕ} → unless_last (f (get_or notes i d)) last ≡ o
-          → numbers_after f last (drop i notes) ≡ numbers_next o last (λ l. numbers_after f l (drop (i + 1) notes))
-      numbers_at {o} e =
-          ap (numbers_after f last) (drop-cons notes i d lt)
-          ∙ ap (λ n. numbers_next (unless_last (f (get_or notes i d)) last) last (λ l. numbers_after f l (drop n notes))) (sym (add-one i))
-          ∙ ap (λ o. numbers_next o last (λ l. numbers_after f l (drop (i + 1) notes))) e
+      first : {o : Option ℕ} → unless_last (f (get_or notes i d)) last ≡ o
+          → without_repeats last (filter_map f (drop i notes)) ≡ cons_option o (without_repeats (option_or o last) (filter_map f (drop (i + 1) notes)))
+      first is =
+          ap (λ (ns : List Note). without_repeats last (filter_map f ns)) (drop-cons notes i d lt)
+          ∙ ap (λ n. without_repeats last (cons_option (f (get_or notes i d)) (filter_map f (drop n notes)))) (sym (add-one i))
+          ∙ first_left (f (get_or notes i d)) last (filter_map f (drop (i + 1) notes))
+          ∙ ap (λ o. cons_option o (without_repeats (option_or o last) (filter_map f (drop (i + 1) notes)))) is
 
       -- nothing is said of this note
-      pub skipped : unless_last (f (get_or notes i d)) last ≡ None → items ++ told (numbers_after f last (drop i notes)) ≡ all
-          → items ++ told (numbers_after f last (drop (i + 1) notes)) ≡ all
-      skipped none e = ap (λ ks. items ++ told ks) (sym (numbers_at none)) ∙ e
+      pub skipped : unless_last (f (get_or notes i d)) last ≡ None → items ++ said last (drop i notes) ≡ all → items ++ said last (drop (i + 1) notes) ≡ all
+      skipped none e = ap (λ (ns : List ℕ). items ++ flat_map tell ns) (sym (first none)) ∙ e
 
       -- what is to be said of its number is said
-      pub taken : (new : List X) (k : ℕ) → unless_last (f (get_or notes i d)) last ≡ Some k → new ≡ items ++ (if test k then emit k else [])
-          → items ++ told (numbers_after f last (drop i notes)) ≡ all → new ++ told (numbers_after f (Some k) (drop (i + 1) notes)) ≡ all
+      pub taken : (new : List X) (k : ℕ) → unless_last (f (get_or notes i d)) last ≡ Some k → new ≡ items ++ tell k
+          → items ++ said last (drop i notes) ≡ all → new ++ said (Some k) (drop (i + 1) notes) ≡ all
       taken new k some is e =
-          let rest = numbers_after f (Some k) (drop (i + 1) notes) in
-          ap (λ xs. xs ++ told rest) is ∙ append_assoc items (if test k then emit k else []) (told rest)
-          ∙ ap (λ xs. items ++ xs) (sym (told_first k rest))
-          ∙ ap (λ ks. items ++ told ks) (sym (numbers_at some)) ∙ e
+          let rest = said (Some k) (drop (i + 1) notes) in
+          ap (λ xs. xs ++ rest) is ∙ append_assoc items (tell k) rest ∙ ap (λ (ns : List ℕ). items ++ flat_map tell ns) (sym (first some)) ∙ e
 
     -- no note is left
-    pub finished : (i : ℕ) (items all : List X) → length notes ≤ i → items ++ told (numbers_after f last (drop i notes)) ≡ all → items ≡ all
+    pub finished : (i : ℕ) (items all : List X) → length notes ≤ i → items ++ said last (drop i notes) ≡ all → items ≡ all
     finished i items all past e =
-        sym (append-nil items) ∙ ap (λ ns. items ++ told (numbers_after f last ns)) (sym (drop_all i notes past)) ∙ e
+        sym (append-nil items) ∙ ap (λ ns. items ++ said last ns) (sym (drop_all i notes past)) ∙ e
 
 -- ---- haves
 
@@ -91,12 +94,6 @@ pub whole_is : (s : EngineState) (counts : List ℕ) (piece : ℕ) {n : ℕ} →
 whole_is s counts piece {n} are lt at =
     some_is (sym (get_mapped (is_whole s) (piece_numbers s) piece (range_at (total_pieces s.torrent) piece lt))
     ∙ ap (λ (bs : List Bool). slice_get bs piece) (sym (wholes_are s counts are)) ∙ get_mapped (λ m. m == 0) counts piece at)
-
--- ---- complete files
-
-pub each_one : (files : List ℕ) → flat_map (λ file. Complete file ∷ []) files ≡ map (λ file. Complete file) files
-each_one [] = refl
-each_one (f ∷ fs) = ap (λ ns. Complete f ∷ ns) (each_one fs)
 
 -- ---- a list that grows while its first elements are looked at
 

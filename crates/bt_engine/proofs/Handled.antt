@@ -1,15 +1,13 @@
--- What the functions of one message do is what is said of an event that was handled.
-use Rattle.bt_machine.proofs.Base.{[], ◌≡◌, ℕ, ◌<◌, inl, inr, true, List, length, Option, Some, Ok, Err, Result, refl, sym, ap, ◌∙◌, subst, arith, slice_get, length-map, PeerKey, WireEvent}
+-- What an event did not do, a peer that is lost, and how many notes an event may have.
+use Rattle.bt_machine.proofs.Base.{[], ◌≡◌, ℕ, inl, inr, List, Option, Some, Ok, Err, Result, refl, sym, ap, ◌∙◌, subst, slice_get, PeerKey, WireEvent}
 use Rattle.std.specs.Prelude.{IfOk, IfErr}
-use Rattle.std.specs.Option.{option_to_list}
 use Rattle.std.proofs.lemmas.Bool.{cases_eq}
 use Rattle.bt_machine.specs.declared.error.EngineError.{EngineError}
-use Rattle.bt_machine.specs.State.{PeerState, EngineState, Hint}
-use Rattle.bt_machine.specs.Devices.{DeviceCalls, HaveCalls}
+use Rattle.bt_machine.specs.State.{PeerState, EngineState}
+use Rattle.bt_machine.specs.Devices.{HaveCalls}
 use Rattle.bt_machine.specs.Next.{without_peer}
 use Rattle.bt_machine.specs.Peers.{StepLost, goes, no_peer}
-use Rattle.bt_machine.specs.WireEvents.{Handles}
-use Rattle.bt_machine.proofs.Lists.{get_some, get_map}
+use Rattle.bt_machine.proofs.Lists.{get_map}
 use Rattle.bt_engine_state.specs.Parts.{state_of, disks_of, peer_of}
 use Rattle.bt_engine_state.specs.Ties.{IsTied}
 use Rattle.bt_engine_state.specs.declared.peer.Peer.{Peer}
@@ -17,8 +15,6 @@ use Rattle.bt_engine_state.specs.declared.parts.Parts.{Parts}
 use Rattle.bt_engine_state.proofs.DeviceCalls.{have_none}
 use Rattle.bt_engine_state.proofs.Lists.{get_mapped}
 use Rattle.bt_engine_state.proofs.PeerLists.{keys_apart}
-use Rattle.bt_engine.specs.EventSteps.{proof_in, effect_of, IsHandled}
-use Rattle.bt_engine.specs.declared.event.Handled.{Handled}
 use Rattle.bt_engine.specs.RoomSteps.{IsMessageBound, IsNoteBound}
 use Rattle.bt_engine_state.specs.declared.open_log.OpenLog.{OpenLog}
 use Rattle.bt_wire.specs.declared.event.WireEvent.TheVariants.{Message}
@@ -34,21 +30,10 @@ pub if_err : {A E : Type 0} (P Q : E → Type 0) (r : Result A E) → IfErr r P 
 if_err P Q (Ok x) p f = p
 if_err P Q (Err e) p f = f e p
 
-module _ {D H : Type 0} (conduct : Conduct D) (dig : List ℕ → List ℕ) (old mid : Parts D H) where
-  -- no device was called
-  pub no_calls : disks_of mid ≡ disks_of old → HaveCalls conduct (disks_of old) [] (disks_of mid)
-  no_calls same =
-      subst (λ (ds : List (Option D)). HaveCalls conduct (disks_of old) [] ds) (sym same) (have_none conduct (disks_of old))
-
-  pub handled_by : (i : ℕ) (event : WireEvent) (handled : Handled) (calls : DeviceCalls) (proofs : List Hint)
-      → ((state_of old).logged ≡ true → proofs ≡ option_to_list (proof_in handled)) → i < length old.peers.items
-      → HaveCalls conduct (disks_of old) calls (disks_of mid)
-      → ((p : PeerState) → slice_get (state_of old).peers i ≡ Some p
-      → Handles dig (state_of old) i p event calls (effect_of p handled proofs) (state_of mid))
-      → IsHandled conduct dig old i event handled mid
-  handled_by i event handled calls proofs kept lt made handles =
-      let p = get_some (state_of old).peers i (omega (arith, length-map old.peers.items (peer_of old.book))) in
-      record { peer = p.0; calls = calls; proofs = proofs; here = p.1; kept = kept; made = made; handles = handles p.0 p.1 }
+-- no device was called
+pub no_calls : {D H : Type 0} (conduct : Conduct D) (old mid : Parts D H) → disks_of mid ≡ disks_of old → HaveCalls conduct (disks_of old) [] (disks_of mid)
+no_calls {D} conduct old mid same =
+    subst (λ (ds : List (Option D)). HaveCalls conduct (disks_of old) [] ds) (sym same) (have_none conduct (disks_of old))
 
 -- the peer that is lost is the one that stands there
 pub lost_at : {D H : Type 0} (parts : Parts D H) (i : ℕ) {p : Peer} {r : Result (Unit {0}) EngineError} {new : EngineState} → IsTied parts

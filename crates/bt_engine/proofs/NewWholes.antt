@@ -1,124 +1,128 @@
 -- What has become whole and complete is among the pieces and files of the blocks that notes say are marked.
-use Rattle.bt_machine.proofs.Base.{[], ◌≡◌, ◌≢◌, ℕ, zero, suc, ◌+◌, ◌*◌, ◌/◌, ◌<◌, ◌≤◌, ◌⊎◌, inl, inr, Bool, true, false, not, ◌&&◌, List, ◌∷◌, length, map, filter, Option, Some, None, refl, sym, ap, ◌∙◌, subst, arith, slice_get, Contains, if◌then◌else◌, range_with_len, option_map, option_map_or, option_and_then, AllPairs-filter, eqb-true, eq-eqb, Metainfo, total_pieces, IsLaidOut, BlockState, Missing, Waiting, Marked, BlockId}
-use Rattle.std.specs.Prelude.{◌==◌}
-use Rattle.std.specs.List.{list_all}
-use Rattle.std.proofs.lemmas.Bool.{cases_eq, ne_eqb}
-use Rattle.bt_tree.specs.TreeShape.{IsPieceLength}
+use Rattle.bt_machine.proofs.Base.{[], ◌≡◌, ◌≢◌, ℕ, zero, suc, ◌+◌, ◌*◌, ◌/◌, ◌<◌, ◌≤◌, ◌⊎◌, inl, inr, Bool, true, false, not, ◌&&◌, List, ◌∷◌, ◌++◌, length, map, filter, Option, Some, None, refl, sym, ap, ◌∙◌, subst, arith, slice_get, Contains, if◌then◌else◌, range_with_len, option_map, option_map_or, option_and_then, AllPairs-filter, eqb-true, eq-eqb, Metainfo, total_pieces, IsLawful, BlockState, Missing, Waiting, Marked, BlockId}
+use Rattle.std.specs.Prelude.{◌==◌, filter_map, flat_map, cond}
+use Rattle.std.specs.List.{list_all, cons_option}
+use Rattle.std.specs.Option.{option_to_list}
 use Rattle.bt_book.specs.Blocks.{IsBefore, IsFrom}
+use Rattle.bt_wire.specs.declared.message.Message.TheVariants.{Have}
 use Rattle.bt_meta.specs.PieceBlocks.{HasBlock}
 use Rattle.bt_store.specs.BlockStates.{is_marked}
 use Rattle.bt_machine.specs.State.{EngineState, FileState}
 use Rattle.bt_machine.specs.Blocks.{block_id, states_of, state_at, piece_of, all_blocks, is_marked_in, is_in_piece, is_whole, is_complete, has_become, file_numbers, new_whole_pieces, new_complete_files}
 use Rattle.bt_machine.specs.Shape.{IsShaped}
 use Rattle.bt_machine.specs.declared.answer.Note.{Note}
-use Rattle.bt_machine.specs.declared.answer.Note.TheVariants.{Marked as NowMarked}
-use Rattle.bt_machine.proofs.Lists.{here, later, contains_none, contains_cases, contains_filter, filter_contains, contains_map, contains_flat_map, range_limits, range_contains, and_true, some_below, get_some, some_is}
+use Rattle.bt_machine.specs.declared.answer.Note.TheVariants.{Marked as NowMarked, Complete}
+use Rattle.bt_machine.specs.Output.{haves, sent_to}
+use Rattle.bt_machine.proofs.Lists.{here, later, contains_none, contains_cases, contains_filter, filter_contains, contains_map, contains_flat_map, flat_map_contains, range_limits, range_contains, and_true, some_below, get_some, some_is}
 use Rattle.bt_machine.proofs.Pairs.{Pairs, to_pairs, from_pairs, some_at, contains_some}
-use Rattle.bt_machine.specs.Changes.{PieceIsWhole}
+use Rattle.bt_machine.proofs.Changes.{piece_is_whole}
 use Rattle.bt_engine_after.proofs.Blocks.{stands}
 use Rattle.bt_engine_after.proofs.PieceOrder.{rises, in_torrent}
-use Rattle.bt_engine.specs.NewsSteps.{IsNotedBefore, TellMarks, marked_piece, marked_file, unless_last}
+use Rattle.bt_engine.specs.NewsSteps.{IsNotedBefore, TellMarks, marked_piece, marked_file, without_repeats, numbers_in, haves_by, complete_by}
+use Rattle.bt_engine.proofs.MarkNotes.{pairs_flat_map}
 
--- ---- the numbers of notes, without those that follow their like
+-- ---- the numbers of notes
 
-abbrev pub numbers_next : Option ℕ → Option ℕ → (Option ℕ → List ℕ) → List ℕ
-numbers_next None last rest = rest last
-numbers_next (Some n) last rest = n ∷ rest (Some n)
+number_there : (o : Option ℕ) (n : ℕ) → option_map_or (λ p. p == n) o false ≡ true → o ≡ Some n
+number_there None n e = absurd cc
+number_there (Some p) n e = ap (λ m. Some m) (eqb-true p n e)
 
-abbrev pub numbers_after : (Note → Option ℕ) → Option ℕ → List Note → List ℕ
-numbers_after f last [] = []
-numbers_after f last (note ∷ notes) = numbers_next (unless_last (f note) last) last (λ l. numbers_after f l notes)
+number_apart : (o : Option ℕ) (n : ℕ) → option_map_or (λ p. p == n) o false ≡ false → (l : ℕ) → o ≡ Some l → l ≢ n
+number_apart None n e l is same = absurd cc
+number_apart (Some p) n e l is same = absurd (let yes = eq-eqb p n (some_is is ∙ same) in cc)
 
--- the last number and one more
-data LastCases (o last : Option ℕ) : Type 0 where
-  has_none : o ≡ None → unless_last o last ≡ None → LastCases o last
-  is_last : (n : ℕ) → o ≡ Some n → last ≡ Some n → unless_last o last ≡ None → LastCases o last
-  is_new : (n : ℕ) → o ≡ Some n → ((l : ℕ) → last ≡ Some l → l ≢ n) → unless_last o last ≡ Some n → LastCases o last
-
-last_cases : (o last : Option ℕ) → LastCases o last
-last_cases None last = has_none refl refl
-last_cases (Some n) None = is_new n refl (λ l e. absurd cc) refl
-last_cases (Some n) (Some m) = elim (cases_eq m n) [
-  | inl same ↦ is_last n refl (ap (λ k. Some k) same) (ap (λ t. if t then None else Some n) (eq-eqb m n same))
-  | inr other ↦ is_new n refl (λ l e same. other (some_is e ∙ same)) (ap (λ t. if t then None else Some n) (ne_eqb m n other))
-]
+its_number : (o : Option ℕ) {k : ℕ} → Contains (option_to_list o) k → o ≡ Some k
+its_number None c = absurd (contains_none c)
+its_number (Some n) c = elim (contains_cases [] c) [ inl same ↦ ap (λ m. Some m) same | inr none ↦ absurd (contains_none none) ]
 
 module _ (f : Note → Option ℕ) where
+  abbrev number : Note → List ℕ
+  number note = option_to_list (f note)
+
+  numbers_are : (notes : List Note) → filter_map f notes ≡ flat_map number notes
+  numbers_are [] = refl
+  numbers_are (m ∷ notes) = ap (λ ns. cons_option (f m) ns) (numbers_are notes) ∙ by (f m)
+    where
+      by : (o : Option ℕ) → cons_option o (flat_map number notes) ≡ option_to_list o ++ flat_map number notes
+      by None = refl
+      by (Some n) = refl
+
   -- each is the number of a note
-  numbers_from : (last : Option ℕ) (notes : List Note) {k : ℕ} → Contains (numbers_after f last notes) k
-      → (note : Note) × Contains notes note × (f note ≡ Some k)
-  numbers_from last [] c = absurd (contains_none c)
-  numbers_from last (note ∷ notes) {k} c = by (λ l c. let m = numbers_from l notes c in (m.0, later note notes m.1, m.2)) (last_cases (f note) last)
+  picked : (notes : List Note) {k : ℕ} → Contains (filter_map f notes) k → (note : Note) × Contains notes note × (f note ≡ Some k)
+  picked notes {k} c =
+      let m = contains_flat_map number notes (subst (λ ns. Contains ns k) (numbers_are notes) c) in (m.0, m.1, its_number (f m.0) m.2)
+
+  -- each number of a note is there
+  pick : (notes : List Note) {note : Note} {k : ℕ} → Contains notes note → f note ≡ Some k → Contains (filter_map f notes) k
+  pick notes {note} {k} c is =
+      subst (λ ns. Contains ns k) (sym (numbers_are notes)) (flat_map_contains number notes c (subst (λ o. Contains (option_to_list o) k) (sym is) (here [] refl)))
+
+  picked_in_order : (notes : List Note) → Pairs (λ m n. (k l : ℕ) → f m ≡ Some k → f n ≡ Some l → k ≤ l) notes → Pairs (λ k l. k ≤ l) (filter_map f notes)
+  picked_in_order notes p =
+      subst (λ ns. Pairs (λ k l. k ≤ l) ns) (sym (numbers_are notes))
+      (pairs_flat_map (λ m n. (k l : ℕ) → f m ≡ Some k → f n ≡ Some l → k ≤ l) (λ k l. k ≤ l) number notes p (λ note c. single (f note))
+      (λ m n k l below c d. below k l (its_number (f m) c) (its_number (f n) d)))
     where
-      by : ((l : Option ℕ) → Contains (numbers_after f l notes) k → (n : Note) × Contains (note ∷ notes) n × (f n ≡ Some k))
-          → LastCases (f note) last → (n : Note) × Contains (note ∷ notes) n × (f n ≡ Some k)
-      by more (has_none e u) = more last (subst (λ o. Contains (numbers_next o last (λ l. numbers_after f l notes)) k) u c)
-      by more (is_last n e l u) = more last (subst (λ o. Contains (numbers_next o last (λ l. numbers_after f l notes)) k) u c)
-      by more (is_new n e l u) =
-          elim (contains_cases (numbers_after f (Some n) notes) (subst (λ o. Contains (numbers_next o last (λ l. numbers_after f l notes)) k) u c)) [
-            | inl same ↦ (note, here notes refl, e ∙ ap (λ k. Some k) same)
-            | inr rest ↦ more (Some n) rest
-          ]
+      single : (o : Option ℕ) → Pairs (λ k l. k ≤ l) (option_to_list o)
+      single None = tt
+      single (Some n) = (λ l c. absurd (contains_none c), tt)
 
-  -- each number of a note is there, but for the last before them
-  numbers_to : (last : Option ℕ) (notes : List Note) {note : Note} {k : ℕ} → Contains notes note → f note ≡ Some k
-      → (last ≡ Some k) ⊎ Contains (numbers_after f last notes) k
-  numbers_to last [] c is = absurd (contains_none c)
-  numbers_to last (m ∷ notes) {note} {k} c is = by (λ l more. numbers_to l notes more is) (last_cases (f m) last)
-    where
-      back : {o : Option ℕ} → unless_last (f m) last ≡ o → Contains (numbers_next o last (λ l. numbers_after f l notes)) k
-          → Contains (numbers_after f last (m ∷ notes)) k
-      back u c = subst (λ o. Contains (numbers_next o last (λ l. numbers_after f l notes)) k) (sym u) c
+-- ---- without those that equal the last one before them
 
-      by : ((l : Option ℕ) → Contains notes note → (l ≡ Some k) ⊎ Contains (numbers_after f l notes) k)
-          → LastCases (f m) last → (last ≡ Some k) ⊎ Contains (numbers_after f last (m ∷ notes)) k
-      by rest (has_none e u) = elim (contains_cases notes c) [
-        | inl same ↦ absurd (let x = sym e ∙ ap f same ∙ is in cc)
-        | inr more ↦ elim (rest last more) [ inl l ↦ inl l | inr r ↦ inr (back u r) ]
+abbrev kept : Bool → Option ℕ → ℕ → List ℕ → List ℕ
+kept repeats last n ns = if repeats then without_repeats last ns else n ∷ without_repeats (Some n) ns
+
+-- each is one of the numbers
+kept_from : (last : Option ℕ) (ns : List ℕ) {k : ℕ} → Contains (without_repeats last ns) k → Contains ns k
+kept_from last [] c = c
+kept_from last (n ∷ ns) {k} c = by (λ l c. kept_from l ns c) (option_map_or (λ m. m == n) last false) c
+  where
+    by : ((l : Option ℕ) → Contains (without_repeats l ns) k → Contains ns k) → (t : Bool) → Contains (kept t last n ns) k → Contains (n ∷ ns) k
+    by more true c = later n ns (more last c)
+    by more false c = elim (contains_cases (without_repeats (Some n) ns) c) [ inl same ↦ here ns same | inr rest ↦ later n ns (more (Some n) rest) ]
+
+-- each of the numbers is there, but for the last one before them
+kept_to : (last : Option ℕ) (ns : List ℕ) {k : ℕ} → Contains ns k → (last ≡ Some k) ⊎ Contains (without_repeats last ns) k
+kept_to last [] c = absurd (contains_none c)
+kept_to last (n ∷ ns) {k} c = by (λ l c. kept_to l ns c) (option_map_or (λ m. m == n) last false) refl
+  where
+    by : ((l : Option ℕ) → Contains ns k → (l ≡ Some k) ⊎ Contains (without_repeats l ns) k) → (t : Bool)
+        → option_map_or (λ m. m == n) last false ≡ t → (last ≡ Some k) ⊎ Contains (kept t last n ns) k
+    by more true is = elim (contains_cases ns c) [ inl same ↦ inl (number_there last n is ∙ ap (λ m. Some m) same) | inr rest ↦ more last rest ]
+    by more false is = elim (contains_cases ns c) [
+      | inl same ↦ inr (here (without_repeats (Some n) ns) same)
+      | inr rest ↦ elim (more (Some n) rest) [
+        | inl e ↦ inr (here (without_repeats (Some n) ns) (some_is e))
+        | inr there ↦ inr (later n (without_repeats (Some n) ns) there)
       ]
-      by rest (is_last n e l u) = elim (contains_cases notes c) [
-        | inl same ↦ inl (l ∙ sym e ∙ ap f same ∙ is)
-        | inr more ↦ elim (rest last more) [ inl l ↦ inl l | inr r ↦ inr (back u r) ]
-      ]
-      by rest (is_new n e l u) = elim (contains_cases notes c) [
-        | inl same ↦ inr (back u (here (numbers_after f (Some n) notes) (some_is (sym e ∙ ap f same ∙ is))))
-        | inr more ↦ elim (rest (Some n) more) [
-          | inl l ↦ inr (back u (here (numbers_after f (Some n) notes) (some_is l)))
-          | inr r ↦ inr (back u (later n (numbers_after f (Some n) notes) r))
-        ]
-      ]
+    ]
 
-  abbrev AreFrom : Option ℕ → List Note → Type 0
-  AreFrom last notes = (note : Note) (l k : ℕ) → Contains notes note → last ≡ Some l → f note ≡ Some k → l ≤ k
+abbrev AreFrom : Option ℕ → List ℕ → Type 0
+AreFrom last ns = (l k : ℕ) → last ≡ Some l → Contains ns k → l ≤ k
 
-  abbrev Rises : Option ℕ → List Note → Option ℕ → Type 0
-  Rises last notes o = Pairs (λ k l. k < l) (numbers_next o last (λ l. numbers_after f l notes))
-      × ((l k : ℕ) → last ≡ Some l → Contains (numbers_next o last (λ l. numbers_after f l notes)) k → l < k)
+abbrev Rise : Option ℕ → List ℕ → Type 0
+Rise last ns = Pairs (λ k l. k < l) ns × ((l k : ℕ) → last ≡ Some l → Contains ns k → l < k)
 
-  -- where the numbers of the notes do not fall, those that are left rise, from above the last one
-  rise : (last : Option ℕ) (notes : List Note) → Pairs (λ m n. (k l : ℕ) → f m ≡ Some k → f n ≡ Some l → k ≤ l) notes → AreFrom last notes
-      → Pairs (λ k l. k < l) (numbers_after f last notes) × ((l k : ℕ) → last ≡ Some l → Contains (numbers_after f last notes) k → l < k)
-  rise last [] p from = (tt, λ l k e c. absurd (contains_none c))
-  rise last (m ∷ notes) p from = by (λ l above. rise l notes p.1 above) (last_cases (f m) last)
-    where
-      by : ((l : Option ℕ) → AreFrom l notes → Pairs (λ k l. k < l) (numbers_after f l notes) × ((j k : ℕ) → l ≡ Some j → Contains (numbers_after f l notes) k → j < k))
-          → LastCases (f m) last
-          → Pairs (λ k l. k < l) (numbers_after f last (m ∷ notes)) × ((l k : ℕ) → last ≡ Some l → Contains (numbers_after f last (m ∷ notes)) k → l < k)
-      by after (has_none e u) = subst (λ o. Rises last notes o) (sym u) (after last (λ note l k c. from note l k (later m notes c)))
-      by after (is_last n e l u) = subst (λ o. Rises last notes o) (sym u) (after last (λ note l k c. from note l k (later m notes c)))
-      by after (is_new n e l u) =
-          let rest = after (Some n) (λ note j k c is own. subst (λ i. i ≤ k) (some_is is) (p.0 note c n k e own)) in
-          subst (λ o. Rises last notes o) (sym u) (
-            (λ k c. rest.1 n k refl c, rest.0),
-            λ j k is c.
-                let low = from m j n (here notes refl) is e in
-                let apart = l j is in
-                let above : j < n = omega (arith, low, apart) in
-                elim (contains_cases (numbers_after f (Some n) notes) c) [
-                  | inl same ↦ omega (arith, above, same)
-                  | inr more ↦ (let up = rest.1 n k refl more in omega (arith, above, up))
-                ],
-          )
+-- where the numbers do not fall, those that are left rise, from above the last one
+kept_rise : (last : Option ℕ) (ns : List ℕ) → Pairs (λ k l. k ≤ l) ns → AreFrom last ns → Rise last (without_repeats last ns)
+kept_rise last [] p from = (tt, λ l k e c. absurd (contains_none c))
+kept_rise last (n ∷ ns) p from = by (λ l above. kept_rise l ns p.1 above) (option_map_or (λ m. m == n) last false) refl
+  where
+    by : ((l : Option ℕ) → AreFrom l ns → Rise l (without_repeats l ns)) → (t : Bool) → option_map_or (λ m. m == n) last false ≡ t
+        → Rise last (kept t last n ns)
+    by after true is = after last (λ l k e c. from l k e (later n ns c))
+    by after false is =
+        let rest = after (Some n) (λ l k e c. subst (λ m. m ≤ k) (some_is e) (p.0 k c)) in (
+          (λ k c. rest.1 n k refl c, rest.0),
+          λ l k e c.
+              let low = from l n e (here ns refl) in
+              let apart = number_apart last n is l e in
+              let above : l < n = omega (arith, low, apart) in
+              elim (contains_cases (without_repeats (Some n) ns) c) [
+                | inl same ↦ omega (arith, above, same)
+                | inr more ↦ (let up = rest.1 n k refl more in omega (arith, above, up))
+              ],
+        )
 
 -- ---- what holds now and did not hold before
 
@@ -152,22 +156,22 @@ become : (holds : EngineState → ℕ → Bool) (old new : EngineState) (f : Not
     → Pairs (λ a b. (k l : ℕ) → f a ≡ Some k → f b ≡ Some l → k ≤ l) notes
     → ((note : Note) (k : ℕ) → Contains notes note → f note ≡ Some k → (holds old k ≡ false) × (k < n))
     → ((k : ℕ) → k < n → holds new k ≡ true → holds old k ≡ false → (note : Note) × Contains notes note × (f note ≡ Some k))
-    → filter (has_become holds old new) (range_with_len 0 n) ≡ filter (holds new) (numbers_after f None notes)
+    → filter (has_become holds old new) (range_with_len 0 n) ≡ filter (holds new) (numbers_in f notes)
 become holds old new f n notes up before after =
     let xs = range_with_len 0 n in
-    let ys = numbers_after f None notes in
+    let ys = numbers_in f notes in
     same_numbers (filter (has_become holds old new) xs) (filter (holds new) ys)
     (to_pairs (λ k l. k < l) _ (AllPairs-filter (λ k l. k < l) (has_become holds old new) xs (from_pairs (λ k l. k < l) xs (range_in_order 0 n))))
-    (to_pairs (λ k l. k < l) _ (AllPairs-filter (λ k l. k < l) (holds new) ys (from_pairs (λ k l. k < l) ys (rise f None notes up (λ note l k c e. absurd cc)).0)))
+    (to_pairs (λ k l. k < l) _ (AllPairs-filter (λ k l. k < l) (holds new) ys (from_pairs (λ k l. k < l) ys (kept_rise None (filter_map f notes) (picked_in_order f notes up) (λ l k e c. absurd cc)).0)))
     (λ k c.
     let of = contains_filter (has_become holds old new) xs c in
     let both = and_true (holds new k) of.1 in
     let lim = range_limits 0 n of.0 in
     let noted = after k (omega (arith, lim)) both.0 (not_so (holds old k) both.1) in
-    elim (numbers_to f None notes noted.1 noted.2) [ inl e ↦ absurd cc | inr there ↦ filter_contains (holds new) ys there both.0 ])
+    elim (kept_to None (filter_map f notes) (pick f notes noted.1 noted.2)) [ inl e ↦ absurd cc | inr there ↦ filter_contains (holds new) ys there both.0 ])
     (λ k c.
     let of = contains_filter (holds new) ys c in
-    let note = numbers_from f None notes of.0 in
+    let note = picked f notes (kept_from None (filter_map f notes) of.0) in
     let was = before note.0 k note.1 note.2 in
     filter_contains (has_become holds old new) xs (range_contains n was.1)
     (ap (λ b. b && not (holds old k)) of.1 ∙ ap not was.0))
@@ -221,9 +225,18 @@ is_among s {b} c =
     let below = (range_limits 0 (length (states_of s y.0)) z.1).1 in
     rw (← z.2) (omega arith)
 
-number_there : (o : Option ℕ) (n : ℕ) → option_map_or (λ p. p == n) o false ≡ true → o ≡ Some n
-number_there None n e = absurd cc
-number_there (Some p) n e = ap (λ m. Some m) (eqb-true p n e)
+-- what is told of each number that meets a test
+told : {X : Type 0} (test : ℕ → Bool) (tell : ℕ → List X) (ns : List ℕ) → flat_map (λ n. if test n then tell n else []) ns ≡ flat_map tell (filter test ns)
+told test tell [] = refl
+told test tell (n ∷ ns) = ap (λ xs. (if test n then tell n else []) ++ xs) (told test tell ns) ∙ by (test n)
+  where
+    by : (t : Bool) → (if t then tell n else []) ++ flat_map tell (filter test ns) ≡ flat_map tell (cond t (n ∷ filter test ns) (filter test ns))
+    by true = refl
+    by false = refl
+
+each_one : (files : List ℕ) → flat_map (λ file. Complete file ∷ []) files ≡ map (λ file. Complete file) files
+each_one [] = refl
+each_one (f ∷ fs) = ap (λ ns. Complete f ∷ ns) (each_one fs)
 
 -- ---- the notes of an event
 
@@ -263,13 +276,13 @@ module _ {old new : EngineState} {notes : List Note} (t : TellMarks old new note
 
   -- ---- files
 
-  pub file_inside : (note : Note) (k : ℕ) → Contains notes note → marked_file note ≡ Some k → k < length new.files
+  file_inside : (note : Note) (k : ℕ) → Contains notes note → marked_file note ≡ Some k → k < length new.files
   file_inside note k c e =
       let b = file_of_note note e in
       let x = noted_there b.0 (subst (Contains notes) b.1 c) in
       subst (λ n. n < length new.files) b.2 (file_below new (slice_get new.files b.0.file) b.0.file b.0.block refl x.1)
 
-  pub complete_news : new_complete_files old new ≡ filter (is_complete new) (numbers_after marked_file None notes)
+  complete_news : new_complete_files old new ≡ filter (is_complete new) (numbers_in marked_file notes)
   complete_news =
       become is_complete old new marked_file (length new.files) notes
       (rising marked_file notes (λ n c. c) (λ m n k l own theirs before e f.
@@ -300,6 +313,12 @@ module _ {old new : EngineState} {notes : List Note} (t : TellMarks old new note
       not_above b c (inl lt) e f = omega (arith, lt, e, f)
       not_above b c (inr at) e f = omega (arith, at.0, e, f)
 
+  -- the files of which is told have become complete
+  pub complete_told : map (λ file. Complete file) (new_complete_files old new) ≡ complete_by new notes
+  complete_told =
+      sym (each_one (new_complete_files old new)) ∙ ap (λ (files : List ℕ). flat_map (λ file. Complete file ∷ []) files) complete_news
+      ∙ sym (told (is_complete new) (λ file. Complete file ∷ []) (numbers_in marked_file notes))
+
   -- ---- pieces
 
   module _ (shaped : IsShaped new.torrent new) where
@@ -311,22 +330,22 @@ module _ {old new : EngineState} {notes : List Note} (t : TellMarks old new note
         → k ≡ h.entry.first_piece + 16384 * b.block / new.torrent.piece_length
     lies b h e = sym (some_is (ap (option_map (λ f. f.first_piece + 16384 * b.block / new.torrent.piece_length)) (sym h.found) ∙ e))
 
-    module _ (size : IsPieceLength new.torrent.piece_length) (lay : IsLaidOut new.torrent.piece_length new.torrent.files) where
+    module _ (lawful : IsLawful new.torrent.piece_length new.torrent.files) where
       pub piece_inside : (note : Note) (k : ℕ) → Contains notes note → marked_piece new.torrent note ≡ Some k → k < total_pieces new.torrent
       piece_inside note k c e =
           let b = piece_of_note new.torrent note e in
           let h = has_block b.0 (subst (Contains notes) b.1 c) in
-          in_torrent new.torrent size lay b.0 k (record { has = h; is = lies b.0 h b.2 })
+          in_torrent new.torrent lawful.piece lawful.laid_out b.0 k (record { has = h; is = lies b.0 h b.2 })
 
-      pub whole_news : PieceIsWhole → new_whole_pieces old new ≡ filter (is_whole new) (numbers_after (marked_piece new.torrent) None notes)
-      whole_news piece_is_whole =
+      whole_news : new_whole_pieces old new ≡ filter (is_whole new) (numbers_in (marked_piece new.torrent) notes)
+      whole_news =
           become is_whole old new (marked_piece new.torrent) (total_pieces new.torrent) notes
           (rising (marked_piece new.torrent) notes (λ n c. c) (λ m n k l own theirs before e f.
           let b = piece_of_note new.torrent m e in
           let c = piece_of_note new.torrent n f in
           let h = has_block b.0 (subst (Contains notes) b.1 own) in
           let i = has_block c.0 (subst (Contains notes) c.1 theirs) in
-          rises new.torrent size lay b.0 c.0 k l (record { has = h; is = lies b.0 h b.2 }) (record { has = i; is = lies c.0 i c.2 })
+          rises new.torrent lawful.piece lawful.laid_out b.0 c.0 k l (record { has = h; is = lies b.0 h b.2 }) (record { has = i; is = lies c.0 i c.2 })
           (from_before (before b.0 c.0 b.1 c.1))) noted_before)
           (λ note k c e.
           let b = piece_of_note new.torrent note e in
@@ -351,3 +370,9 @@ module _ {old new : EngineState} {notes : List Note} (t : TellMarks old new note
           from_before : {b c : BlockId} → IsBefore b c → IsFrom b c
           from_before (inl lt) = inl lt
           from_before (inr at) = inr (at.0, omega (arith, at.1))
+
+      -- the pieces of which is told have become whole
+      pub haves_told : haves old new ≡ haves_by new notes
+      haves_told =
+          ap (λ (pieces : List ℕ). flat_map (λ piece. map (λ p. sent_to p (Have piece)) new.peers) pieces) whole_news
+          ∙ sym (told (is_whole new) (λ piece. map (λ p. sent_to p (Have piece)) new.peers) (numbers_in (marked_piece new.torrent) notes))

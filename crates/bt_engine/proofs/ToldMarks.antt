@@ -12,7 +12,7 @@ use Rattle.bt_tree.specs.Blocks.{block_count}
 use Rattle.bt_meta.specs.Files.{File}
 use Rattle.bt_meta.specs.Torrent.{IsLawfulFile}
 use Rattle.bt_book.specs.Blocks.{IsBefore}
-use Rattle.bt_engine_pending.specs.Pending.{PendingView}
+use Rattle.bt_engine_state.specs.Pending.{PendingView}
 use Rattle.bt_store.specs.BlockStates.{is_marked}
 use Rattle.bt_store.specs.declared.block_states.BlockState.{BlockState}
 use Rattle.bt_machine.specs.declared.answer.Note.{Note}
@@ -20,14 +20,14 @@ use Rattle.bt_machine.specs.declared.answer.Note.TheVariants.{Marked as NowMarke
 use Rattle.bt_machine.specs.Hints.{add_hint, add_hints}
 use Rattle.bt_machine.specs.State.{FileState, EngineState, Hint, mark_of}
 use Rattle.bt_machine.specs.Shape.{IsShaped}
-use Rattle.bt_machine.specs.Blocks.{states_of, state_at, all_blocks, is_marked_in, has_become, new_marked_blocks}
-use Rattle.bt_machine.proofs.Lists.{some_is, some_below, here, later, contains_none, contains_cases, contains_map, contains_flat_map, flat_map_contains, contains_filter, filter_contains, and_true}
+use Rattle.bt_machine.specs.Blocks.{states_of, state_at, all_blocks, is_marked_in, is_complete, has_become, new_marked_blocks}
+use Rattle.bt_machine.proofs.Lists.{some_is, some_below, here, later, contains_none, contains_cases, contains_flat_map, flat_map_contains, contains_filter, filter_contains, and_true}
 use Rattle.bt_machine.proofs.Pairs.{Pairs, to_pairs, from_pairs}
 use Rattle.bt_engine_state.specs.Parts.{state_of, pending_of, hints_of}
 use Rattle.bt_engine_state.specs.declared.open_log.OpenLog.{OpenLog}
 use Rattle.bt_engine_state.specs.declared.parts.Parts.{Parts}
 use Rattle.bt_engine_state.proofs.Unmarked.{among, all_in_order}
-use Rattle.bt_engine.specs.NewsSteps.{IsNotedBefore, TellMarks}
+use Rattle.bt_engine.specs.NewsSteps.{IsNotedBefore, TellMarks, marked_file, numbers_in, notes_if_complete, complete_by}
 use Rattle.bt_engine.specs.PendingSteps.{marked_block, marks_of, marks_in, hints_told, with_hints, AreInside}
 use Rattle.bt_engine.proofs.MarkNotes.{pairs_flat_map}
 use Rattle.bt_engine.proofs.NewWholes.{has_block}
@@ -67,14 +67,19 @@ shape_recorded {s} {t} hints is shaped =
 
 -- ---- notes that tell no mark
 
-no_marks : (files : List ℕ) → flat_map marked_block (map (λ file. Complete file) files) ≡ []
-no_marks [] = refl
-no_marks (file ∷ files) = no_marks files
+no_marks : (s : EngineState) (files : List ℕ) → flat_map marked_block (flat_map (notes_if_complete s) files) ≡ []
+no_marks s [] = refl
+no_marks s (file ∷ files) = by (is_complete s file) (no_marks s files)
+  where
+    by : (t : Bool) → flat_map marked_block (flat_map (notes_if_complete s) files) ≡ []
+        → flat_map marked_block ((if t then Complete file ∷ [] else []) ++ flat_map (notes_if_complete s) files) ≡ []
+    by true e = e
+    by false e = e
 
-pub same_marks_in : (notes : List Note) (files : List ℕ) → marks_in (notes ++ map (λ file. Complete file) files) ≡ marks_in notes
-same_marks_in notes files =
-    ap (λ bs. map (λ b. mark_of b) bs) (flat_map-append marked_block notes (map (λ file. Complete file) files)
-    ∙ ap (λ bs. flat_map marked_block notes ++ bs) (no_marks files) ∙ append-nil (flat_map marked_block notes))
+pub same_marks_in : (s : EngineState) (notes : List Note) → marks_in (notes ++ complete_by s notes) ≡ marks_in notes
+same_marks_in s notes =
+    ap (λ bs. map (λ b. mark_of b) bs) (flat_map-append marked_block notes (complete_by s notes)
+    ∙ ap (λ bs. flat_map marked_block notes ++ bs) (no_marks s (numbers_in marked_file notes)) ∙ append-nil (flat_map marked_block notes))
 
 few_block : (note : Note) → length (marked_block note) ≤ 1
 few_block (NowMarked b) = omega arith
@@ -219,8 +224,12 @@ module _ {old new : EngineState} {notes : List Note} (t : TellMarks old new note
       omega (arith, h.inside, short)
 
 -- nor do notes of complete files name others
-pub inside_alike : (notes : List Note) (files : List ℕ) → AreInside notes → AreInside (notes ++ map (λ file. Complete file) files)
-inside_alike notes files inside = λ b c. elim (Contains-append_cases notes (map (λ file. Complete file) files) (NowMarked b) c) [
+pub inside_alike : (s : EngineState) (notes : List Note) → AreInside notes → AreInside (notes ++ complete_by s notes)
+inside_alike s notes inside = λ b c. elim (Contains-append_cases notes (complete_by s notes) (NowMarked b) c) [
   | inl own ↦ inside b own
-  | inr other ↦ absurd (let m = contains_map (λ file. Complete file) files other in let e = m.2 in cc)
+  | inr other ↦ absurd (let m = contains_flat_map (notes_if_complete s) (numbers_in marked_file notes) other in no_mark (is_complete s m.0) m.0 m.2)
 ]
+  where
+    no_mark : (t : Bool) (file : ℕ) {b : BlockId} → Contains (if t then Complete file ∷ [] else []) (NowMarked b) → ⊥
+    no_mark true file c = elim (contains_cases [] c) [ inl same ↦ absurd cc | inr none ↦ absurd (contains_none none) ]
+    no_mark false file c = absurd (contains_none c)

@@ -1,5 +1,5 @@
 -- What has become whole and complete, read off the notes of a wire event.
-use Rattle.std.specs.Prelude.{[], ◌≡◌, ◌≢◌, ℕ, ◌==◌, if◌then◌else◌, false, List, ◌∷◌, map, length, Option, Some, None, Contains}
+use Rattle.std.specs.Prelude.{[], ◌≡◌, ◌≢◌, ℕ, ◌==◌, if◌then◌else◌, false, List, ◌∷◌, map, flat_map, filter_map, length, Option, Some, None, Contains}
 use Rattle.std.specs.Option.{option_map_or}
 use Rattle.std.specs.List.{AllPairs}
 use Rattle.bt_meta.specs.Torrent.{Metainfo}
@@ -54,6 +54,18 @@ abbrev pub unless_last : Option ℕ → Option ℕ → Option ℕ
 unless_last None last = None
 unless_last (Some n) last = if option_map_or (λ m. m == n) last false then None else Some n
 
+-- the numbers without those that equal the last one before them
+abbrev pub without_repeats : Option ℕ → List ℕ → List ℕ
+without_repeats last [] = []
+without_repeats last (n ∷ ns) = if option_map_or (λ m. m == n) last false then without_repeats last ns
+    else n ∷ without_repeats (Some n) ns
+
+-- the numbers that notes have, each once where equal ones stand side by side
+abbrev pub numbers_in : (Note → Option ℕ) → List Note → List ℕ
+numbers_in number notes = without_repeats None (filter_map number notes)
+
+-- ---- what is told of them
+
 -- what is sent of a piece: a have to every peer, where it is whole
 abbrev pub haves_of : EngineState → ℕ → List Sent
 haves_of s piece = if is_whole s piece then map (λ p. sent_to p (Have piece)) s.peers else []
@@ -61,3 +73,11 @@ haves_of s piece = if is_whole s piece then map (λ p. sent_to p (Have piece)) s
 -- a note of the file, where it is complete
 abbrev pub notes_if_complete : EngineState → ℕ → List Note
 notes_if_complete s file = if is_complete s file then Complete file ∷ [] else []
+
+-- Of the blocks that notes say are marked: haves of each of their pieces that is whole, piece by piece, each to
+-- every peer; and a note of each of their files that is complete, file by file.
+abbrev pub haves_by : EngineState → List Note → List Sent
+haves_by s notes = flat_map (haves_of s) (numbers_in (marked_piece s.torrent) notes)
+
+abbrev pub complete_by : EngineState → List Note → List Note
+complete_by s notes = flat_map (notes_if_complete s) (numbers_in marked_file notes)

@@ -14,7 +14,7 @@ ghost use Rattle.bt_machine.specs.Shape.{IsShaped};
 ghost use Rattle.bt_machine.specs.Sound.{IsSound};
 ghost use Rattle.bt_machine.specs.Opening.{AnswersStart};
 ghost use Rattle.bt_machine.specs.View.{StepsTo};
-ghost use Rattle.bt_engine_adopt.specs.Unknown.{HasUnknownLeaf};
+ghost use Rattle.bt_engine_after.specs.Unknown.{HasUnknownLeaf};
 ghost use Rattle.bt_engine.specs.Kept.{view_of};
 ghost use Rattle.bt_engine.specs.Standing.{Stands, KeepsBlocks, KeepsHints};
 ghost use Rattle.bt_engine.specs.Reopened.{IsReopened, IsBackedByLog};
@@ -205,7 +205,7 @@ impl<D: Disk + Drop, H: NodeHash> Engine<D, H> {
     {
         steps_keep_laws::<D, H>(self.hash);
         events_stand::<D, H>(self.hash);
-        bt_engine_adopt::adopt(self.alloc, &mut self.parts, file)
+        bt_engine_after::adopt(self.alloc, &mut self.parts, file)
     }
 
     /// Syncs all devices, in the order of files; with a log then appends what waits for it, in the order of
@@ -241,7 +241,7 @@ impl<D: Disk + Drop, H: NodeHash> Engine<D, H> {
         steps_keep_laws::<D, H>(self.hash);
         logs_back_engines::<D, H>(self.hash);
         goes_by_log(&self.parts);
-        bt_engine_restart::restart(self.alloc, self.hash, &mut self.parts)
+        bt_engine_start::restart(self.alloc, self.hash, &mut self.parts)
     }
 
     /// The digest of its trees, SHA-256. A law of digests is called with it.

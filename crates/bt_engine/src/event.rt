@@ -8,56 +8,28 @@ ghost use Rattle.bt_machine.specs.Next.{without_peer};
 ghost use Rattle.bt_machine.specs.Orderly.{IsOrderly};
 ghost use Rattle.bt_engine_state.specs.Parts.{state_of, disks_of};
 ghost use Rattle.bt_engine_state.specs.Handling.{IsTiedAt, AreInShapeAt, KeepsLog, KeepsDevices, KeepsWritten};
-ghost use Rattle.bt_engine_messages.specs.Message.{IsPeerEvent};
-ghost use Rattle.bt_engine_messages.specs.Hashes.{IsNoteRoom};
-ghost use Rattle.bt_engine_messages.specs.Piece.{cancels_to};
+ghost use Rattle.bt_engine_messages.specs.Outcome.{sent_by, notes_in, note_count, reply_count, cancels_to, IsHandled};
+ghost use Rattle.bt_engine_messages.specs.Peer.{KnowsPieces};
 ghost use Rattle.bt_engine.specs.NewsSteps.{TellMarks};
 ghost use Rattle.bt_engine.specs.RoomSteps.{IsNoteBound, HasRoom, HasRoomFor};
 ghost use Rattle.bt_engine.specs.PendingSteps.{HasHintRoom};
-ghost use Rattle.bt_engine.specs.EventSteps.{sent_by, notes_in, note_count, reply_count, IsReadable, IsHandled, FollowsReply, GoesOn, closed_output};
+ghost use Rattle.bt_engine.specs.EventSteps.{FollowsReply, GoesOn, closed_output};
 
 use crate::news::{announce_pieces, note_complete_files};
 use crate::pending::record_hints;
 use crate::room::{EventLists, reserve};
-use arrayvec::ArrayVec;
-use bt_book::{MAX_ASKERS, PeerKey};
+use bt_book::PeerKey;
 use bt_disk::Disk;
 use bt_engine_after::follow_up;
 use bt_engine_messages::{
-    Effect, Learnt, Served, take_hash_request, take_hashes, take_peer_event, take_piece,
-    take_request,
+    Outcome, Reply, take_hash_request, take_hashes, take_peer_event, take_piece, take_request,
 };
 use bt_engine_state::Parts;
-use bt_hashreq::HashKey;
 use bt_machine::{Frame, Note, Output, Why};
 use bt_resume::Hint;
 use bt_tree::NodeHash;
-use bt_wire::{Ask, Bytes, Message, WireEvent};
+use bt_wire::{Ask, Message, WireEvent};
 use std::alloc::{AllocError, Global};
-
-/// What a wire event comes to by itself, where its peer stays.
-#[derive(Debug, Drop)]
-pub(crate) enum Reply {
-    /// Nothing is sent, and nothing noted.
-    Nothing,
-    /// The peer is sent this.
-    Sends(Message),
-    Noted(Note),
-    /// A block was stored, with this note: these others, which are asked for this range too, are sent a cancel
-    /// of it.
-    Stored(Note, Ask, ArrayVec<PeerKey, MAX_ASKERS>),
-    /// Blocks were settled, with these notes.
-    Settled(Vec<Note>),
-}
-
-/// What a wire event comes to by itself.
-#[derive(Debug, Drop)]
-pub(crate) enum Handled {
-    /// The peer is closed.
-    Closed(Why),
-    /// The peer stays. Where there is a log, the hint is the proof that the event brought for it.
-    Stays(Reply, Option<Hint>),
-}
 
 /// Takes an event that came from the peer at `index`, to the end. Errors: out of memory; nothing changed
 /// then, but that there may be more room for hints.
@@ -99,9 +71,11 @@ fn take_in_room<D: Disk + Drop, H: NodeHash>(
     ensures kept { IfErr result (λ _. parts.new ≡ parts.old) }
     ensures rest { KeepsWritten parts.old parts.new }
 {
+    // What every torrent keeps to.
+    parts.torrent.keeps_laws();
     match handle(alloc, parts, index, event)? {
-        Handled::Closed(why) => Ok(close(alloc, parts, index, why)),
-        Handled::Stays(reply, proof) => Ok(keep(parts, index, reply, proof, room)),
+        Outcome::Closed(why) => Ok(close(alloc, parts, index, why)),
+        Outcome::Stays(reply, proof) => Ok(keep(parts, index, reply, proof, room)),
     }
 }
 
@@ -218,128 +192,33 @@ fn handle<D: Disk + Drop, H: NodeHash>(
     parts: &mut Parts<D, H>,
     index: usize,
     event: &WireEvent,
-) -> Result<Handled, AllocError>
+) -> Result<Outcome, AllocError>
     requires peer { AreInShapeAt parts.old index }
-    requires orderly { IsOrderly (state_of parts.old) }
-    ensures handled { IfOk result (λ handled. IsHandled D.conduct H.digest
-        parts.old index event.now handled parts.new) }
-    ensures few { IfOk result (λ handled. (bound : ℕ) → IsNoteBound parts.old event.now bound
-        → note_count handled ≤ bound) }
-    ensures readable { IfOk result IsReadable }
+    requires pieces { KnowsPieces parts.old.torrent parts.old.peers.items index }
+    ensures handled { IfOk result (λ outcome. IsHandled D.conduct H.digest
+        parts.old index event.now outcome parts.new) }
+    ensures few { IfOk result (λ outcome. (bound : ℕ) → IsNoteBound parts.old event.now bound
+        → note_count outcome ≤ bound) }
     ensures kept { IfErr result (λ _. parts.new ≡ parts.old) }
     ensures rest { KeepsLog parts.old parts.new }
 {
     match event {
         WireEvent::Message(message) => match message {
-            Message::Request(ask) => handle_request(alloc, parts, index, *ask),
+            Message::Request(ask) => take_request(alloc, parts, index, *ask),
             Message::Piece {
                 piece,
                 begin,
                 bytes,
-            } => Ok(handle_piece(parts, index, *piece, *begin, bytes)),
+            } => Ok(take_piece(parts, index, *piece, *begin, bytes.as_slice())),
             Message::HashRequest(key) => {
                 let message = take_hash_request(alloc, parts, key)?;
-                Ok(Handled::Stays(Reply::Sends(message), None))
+                Ok(Outcome::Stays(Reply::Sends(message), None))
             }
-            Message::Hashes(key, digests) => handle_hashes(alloc, parts, index, key, digests),
-            _ => Ok(handle_own(parts, index, event)),
+            Message::Hashes(key, digests) => {
+                take_hashes(alloc, parts, index, key, digests.as_slice())
+            }
+            _ => Ok(take_peer_event(parts, index, event)),
         },
-        _ => Ok(handle_own(parts, index, event)),
-    }
-}
-
-/// What an event does that changes its peer alone, or nothing.
-fn handle_own<D: Disk + Drop, H: NodeHash>(
-    parts: &mut Parts<D, H>,
-    index: usize,
-    event: &WireEvent,
-) -> Handled
-    requires peer { IsTiedAt parts.old index }
-    requires orderly { IsOrderly (state_of parts.old) }
-    requires own { IsPeerEvent event.now }
-    ensures handled { IsHandled D.conduct H.digest parts.old index event.now result
-        parts.new }
-    ensures few { note_count result ≡ 0 }
-    ensures readable { IsReadable result }
-    ensures rest { KeepsLog parts.old parts.new }
-{
-    match take_peer_event(parts, index, event) {
-        Some(why) => Handled::Closed(why),
-        None => Handled::Stays(Reply::Nothing, None),
-    }
-}
-
-/// What a block does that comes.
-fn handle_piece<D: Disk + Drop, H: NodeHash>(
-    parts: &mut Parts<D, H>,
-    index: usize,
-    piece: u32,
-    begin: u32,
-    bytes: &Bytes,
-) -> Handled
-    requires { AreInShapeAt parts.old index }
-    ensures handled { IsHandled D.conduct H.digest parts.old index
-        (WireEvent.Message (Message.Piece piece begin bytes.now)) result parts.new }
-    ensures few { note_count result ≤ 1 }
-    ensures readable { IsReadable result }
-    ensures rest { KeepsLog parts.old parts.new }
-{
-    match take_piece(parts, index, piece, begin, bytes.as_slice()) {
-        Effect::Noted(note) => Handled::Stays(Reply::Noted(note), None),
-        Effect::Stored(note, ask, others) => Handled::Stays(Reply::Stored(note, ask, others), None),
-        Effect::Closed(why) => Handled::Closed(why),
-    }
-}
-
-/// What a request for a range does. Errors: out of memory; nothing changed then.
-fn handle_request<D: Disk + Drop, H: NodeHash>(
-    alloc: Global,
-    parts: &mut Parts<D, H>,
-    index: usize,
-    ask: Ask,
-) -> Result<Handled, AllocError>
-    requires { AreInShapeAt parts.old index }
-    ensures handled { IfOk result (λ handled. IsHandled D.conduct H.digest parts.old index
-        (WireEvent.Message (Message.Request ask)) handled parts.new) }
-    ensures few { IfOk result (λ handled. note_count handled ≤ 1) }
-    ensures readable { IfOk result IsReadable }
-    ensures kept { IfErr result (λ _. parts.new ≡ parts.old) }
-    ensures rest { KeepsLog parts.old parts.new }
-{
-    match take_request(alloc, parts, index, ask)? {
-        Served::Nothing => Ok(Handled::Stays(Reply::Nothing, None)),
-        Served::Closed(why) => Ok(Handled::Closed(why)),
-        Served::Sent(bytes) => {
-            let message = Message::Piece {
-                piece: ask.piece,
-                begin: ask.begin,
-                bytes: Bytes::new(bytes),
-            };
-            Ok(Handled::Stays(Reply::Sends(message), None))
-        }
-        Served::Found(note) => Ok(Handled::Stays(Reply::Noted(note), None)),
-    }
-}
-
-/// What hashes do that come. Errors: out of memory; nothing changed then.
-fn handle_hashes<D: Disk + Drop, H: NodeHash>(
-    alloc: Global,
-    parts: &mut Parts<D, H>,
-    index: usize,
-    key: &HashKey,
-    digests: &Bytes,
-) -> Result<Handled, AllocError>
-    requires { AreInShapeAt parts.old index }
-    ensures handled { IfOk result (λ handled. IsHandled D.conduct H.digest parts.old index
-        (WireEvent.Message (Message.Hashes key.now digests.now)) handled parts.new) }
-    ensures few { IfOk result (λ handled. (bound : ℕ) → IsNoteRoom parts.old key.now bound
-        → note_count handled ≤ bound) }
-    ensures readable { IfOk result IsReadable }
-    ensures kept { IfErr result (λ _. parts.new ≡ parts.old) }
-    ensures rest { KeepsLog parts.old parts.new }
-{
-    match take_hashes(alloc, parts, index, key, digests.as_slice())? {
-        Learnt::Refused(why) => Ok(Handled::Closed(why)),
-        Learnt::Settled(notes, proof) => Ok(Handled::Stays(Reply::Settled(notes), proof)),
+        _ => Ok(take_peer_event(parts, index, event)),
     }
 }

@@ -1,21 +1,20 @@
 //! What a wire event makes whole and complete, read off its notes: it costs as much as the event has notes,
 //! however large the torrent is.
-ghost use Rattle.std.specs.Prelude.{◌≡◌, ◌+◌, ◌*◌, ◌≤◌, ◌<◌, ◌++◌, map, length, vec_len, vec_capacity};
+ghost use Rattle.std.specs.Prelude.{◌≡◌, ◌+◌, ◌*◌, ◌≤◌, ◌<◌, ◌++◌, length, vec_len, vec_capacity};
 ghost use Rattle.bt_meta.specs.PieceBlocks.{HasBlock};
 ghost use Rattle.bt_meta.specs.Torrent.{total_pieces};
 ghost use Rattle.bt_book.specs.declared.names.BlockId.{BlockId as Block};
 ghost use Rattle.bt_machine.specs.State.{EngineState};
-ghost use Rattle.bt_machine.specs.Blocks.{is_complete, new_complete_files};
-ghost use Rattle.bt_machine.specs.Output.{haves};
+ghost use Rattle.bt_machine.specs.Blocks.{is_complete};
 ghost use Rattle.bt_engine_state.specs.Parts.{state_of};
 ghost use Rattle.bt_engine_state.specs.Ties.{IsTied};
 ghost use Rattle.bt_engine_state.specs.Handling.{AreInShape};
-ghost use Rattle.bt_engine.specs.NewsSteps.{TellMarks, marked_piece, marked_file, unless_last, haves_of, notes_if_complete};
+ghost use Rattle.bt_engine.specs.NewsSteps.{TellMarks, marked_piece, marked_file, unless_last, haves_of, notes_if_complete, haves_by, complete_by};
 
 use bt_book::PeerKey;
 use bt_disk::Disk;
 use bt_engine_state::Parts;
-use bt_machine::{Frame, Note, whole_pieces_are_marked};
+use bt_machine::{Frame, Note};
 use bt_meta::Torrent;
 use bt_tree::NodeHash;
 use bt_wire::Message;
@@ -31,16 +30,13 @@ pub(crate) fn announce_pieces<D: Disk + Drop, H: NodeHash>(
     requires told { (old : EngineState) × TellMarks old (state_of parts.now) notes.now }
     requires room { vec_len send.old + length notes.now * length parts.now.peers.items
         ≤ vec_capacity send.old }
-    ensures sent { (old : EngineState) → TellMarks old (state_of parts.now) notes.now
-        → send.new.items ≡ send.old.items ++ haves old (state_of parts.now) }
+    ensures sent { send.new.items ≡ send.old.items ++ haves_by (state_of parts.now) notes.now }
     ensures few { vec_len send.new ≤ vec_len send.old
         + length notes.now * length parts.now.peers.items }
     ensures capacity { vec_capacity send.old ≤ vec_capacity send.new }
 {
-    // What every torrent keeps to is said by these two calls, and which pieces are whole by the third.
-    let _ = parts.torrent.piece_length();
-    let _ = parts.torrent.files();
-    whole_pieces_are_marked();
+    // What every torrent keeps to.
+    parts.torrent.keeps_laws();
     let mut last = None;
     for note in notes {
         let Some(piece) = unless_last(marked_piece(&parts.torrent, note), last) else {
@@ -83,10 +79,8 @@ pub(crate) fn note_complete_files<D: Disk + Drop, H: NodeHash>(
 )
     requires sound { AreInShape parts.now }
     requires room { vec_len notes.old + vec_len notes.old ≤ vec_capacity notes.old }
-    ensures noted { (old : EngineState) → TellMarks old (state_of parts.now) notes.old.items
-        → notes.new.items
-        ≡ notes.old.items ++ map (λ file. Note.Complete file)
-        (new_complete_files old (state_of parts.now)) }
+    ensures noted { notes.new.items ≡ notes.old.items
+        ++ complete_by (state_of parts.now) notes.old.items }
 {
     let mut last = None;
     for index in 0..notes.len() {

@@ -7,8 +7,7 @@ ghost use Rattle.bt_engine_state.specs.Parts.{state_of, log_of};
 ghost use Rattle.bt_engine.specs.PendingSteps.{marks_of, marks_in, hints_told, with_hints, HasHintRoom, AreInside};
 
 use bt_disk::Disk;
-use bt_engine_pending::Pending;
-use bt_engine_state::Parts;
+use bt_engine_state::{Parts, Pending};
 use bt_machine::Note;
 use bt_resume::Hint;
 use bt_tree::NodeHash;

@@ -14,7 +14,7 @@ use Rattle.bt_machine.specs.Devices.{DeviceCalls, HaveCalls}
 use Rattle.bt_machine.specs.Flush.{fails, syncs_of}
 use Rattle.bt_engine_state.specs.Parts.{file_of, disk_of}
 use Rattle.bt_engine_state.specs.declared.slot.Slot.{Slot}
-use Rattle.bt_engine_state.proofs.DeviceCalls.{have_none, have_then}
+use Rattle.bt_engine_state.proofs.DeviceCalls.{have_then}
 use Rattle.bt_engine_state.proofs.Lists.{get_mapped}
 use Rattle.bt_engine_state.proofs.SlotChanges.{have_changed}
 use Rattle.bt_engine_after.specs.DevicesSteps.{SyncsSlot, syncs, rests, SyncsSlots, without_disk, store_without_disk}
@@ -73,13 +73,6 @@ module _ {D H : Type 0} (conduct : Conduct D) where
     pub have : HaveCalls conduct (map disk_of old) (syncs_of (data_below (map file_of old) i)) (map disk_of now)
     pub others : map without_disk now ≡ map without_disk old
     pub after : (j : ℕ) → i ≤ j → slice_get now j ≡ slice_get old j
-
-  pub none_synced : (slots : List (Slot D H)) → AreSyncedBelow slots slots 0
-  none_synced slots = record {
-    have = have_none conduct (map disk_of slots);
-    others = refl;
-    after = λ j le. refl;
-  }
 
   module _ (old now : List (Slot D H)) (i : ℕ) (slot new : Slot D H) (below : AreSyncedBelow old now i) (here : slice_get now i ≡ Some slot) where
     before : slice_get old i ≡ Some slot

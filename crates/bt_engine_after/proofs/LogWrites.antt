@@ -10,7 +10,7 @@ use Rattle.bt_machine.specs.State.{EngineState}
 use Rattle.bt_machine.specs.Devices.{DeviceCalls, HaveCalls}
 use Rattle.bt_machine.specs.LogCalls.{LogCall, append_fault, log_flushed, flush_fault, EventCalls, on_devices, IsLogCall, AreLogCalls, HaveLogCalls}
 use Rattle.bt_machine.specs.Flush.{data_files, syncs_of, appended, synced_then, StepFlush, syncs}
-use Rattle.bt_engine_pending.specs.Writing.{WritesHints, written, unwritten, unflushed, WritingFlushes}
+use Rattle.bt_engine_state.specs.Writing.{WritesHints, written, unwritten, unflushed, WritingFlushes}
 use Rattle.bt_engine_state.specs.Parts.{state_of, disks_of, log_of, pending_of, hints_of}
 use Rattle.bt_engine_state.specs.declared.open_log.OpenLog.{OpenLog}
 use Rattle.bt_engine_state.specs.declared.parts.Parts.{Parts}

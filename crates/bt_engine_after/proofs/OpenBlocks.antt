@@ -1,11 +1,12 @@
 -- The blocks that the book gives a peer are those that the machine asks it for.
-use Rattle.bt_machine.proofs.Base.{◌≡◌, ◌≢◌, ℕ, ◌+◌, ◌<◌, ◌≤◌, ◌⊎◌, inl, inr, Bool, true, false, List, [], ◌++◌, length, map, Option, Some, refl, sym, ap, ◌∙◌, arith, subst, slice_get, Contains, All, BlockId, PeerKey, append-nil, length-append, AllPairs, cases_lt}
+use Rattle.bt_machine.proofs.Base.{◌≡◌, ℕ, ◌<◌, ◌⊎◌, inl, inr, Bool, true, false, List, [], map, Option, Some, refl, sym, ap, ◌∙◌, arith, subst, slice_get, Contains, All, BlockId, PeerKey, append-nil, cases_lt}
 use Rattle.std.specs.Prelude.{count_by}
 use Rattle.bt_machine.proofs.Lists.{contains_none, map_contains, set_id}
 use Rattle.bt_machine.proofs.Pairs.{contains_some}
-use Rattle.bt_book.specs.Book.{BookState, IsBook, IsJoined, CanAsk, asked_of, KeepsOthers, max_requests, max_askers}
+use Rattle.bt_book.specs.Book.{BookState, IsBook, IsJoined, CanAsk, HasAskedAll, AreAskedInTurn, asked_of, with_pairs, max_askers}
 use Rattle.bt_book.specs.Blocks.{GivesFirst, is_block, member}
 use Rattle.bt_book.proofs.Listed.{counted_blocks, joined_peers, asked_le_pairs}
+use Rattle.bt_book.proofs.AskedAll.{asked_with_pairs, size_with_pairs, others_with_pairs, held_in_turn, distinct_in_book, none_left}
 use Rattle.bt_machine.specs.State.{PeerState}
 use Rattle.bt_machine.specs.Blocks.{with_peer, asker_count}
 use Rattle.bt_machine.specs.Shape.{IsShaped}
@@ -75,16 +76,16 @@ module _ {D H : Type 0} (old : Parts D H) (i : ℕ) (p : Peer) (tied : IsTied ol
         let c = map_contains (λ (q : Peer). q.key) old.peers.items (contains_some old.peers.items i here) in
         (joined_peers old.book p.key).1 (subst (λ (ks : List PeerKey). Contains ks p.key) tied.joined c)
 
-    module _ (asked : asked_of book p.key ≡ asked_of old.book p.key ++ blocks) (others : KeepsOthers old.book book p.key)
-        (can : All (CanAsk old.book p.key) blocks) (distinct : AllPairs (λ b c. b ≢ c) blocks)
-        (held : (has : BlockId → Bool) → GivesFirst next old.book.wanted has → All (λ b. has b ≡ true) blocks)
-        (short : length (asked_of book p.key) ≤ max_requests)
-        (all : (¬ IsJoined old.book p.key) ⊎ (length (asked_of old.book p.key) + length blocks ≡ max_requests)
-        ⊎ ((has : BlockId → Bool) → GivesFirst next old.book.wanted has → (b : BlockId) → CanAsk old.book p.key b → has b ≡ true → Contains blocks b)) where
+    module _ (now : book ≡ with_pairs old.book p.key blocks) (can : All (CanAsk old.book p.key) blocks)
+        (turns : (has : BlockId → Bool) → GivesFirst next old.book.wanted has → AreAskedInTurn has old.book p.key blocks)
+        (all : HasAskedAll next book p.key) (kept : IsBook book) where
+      held : All (λ b. is_held old.torrent p.has b ≡ true) blocks
+      held = held_in_turn (is_held old.torrent p.has) old.book p.key blocks (turns (is_held old.torrent p.has) gives)
+
       is_open : (b : BlockId) → Contains blocks b → IsOpen (state_of old) (peer_of old.book p) b
       is_open b c =
           let able' = subst (CanAsk old.book p.key) c.2 (can c.0 b c.1) in
-          let held' = subst (λ (b : BlockId). is_held old.torrent p.has b ≡ true) c.2 (held (is_held old.torrent p.has) gives c.0 b c.1) in
+          let held' = subst (λ (b : BlockId). is_held old.torrent p.has b ≡ true) c.2 (held c.0 b c.1) in
           record {
             has = has_of_held (state_of old) shaped (peer_of old.book p) b held';
             missing = (tied.wanted b).0 (able b able');
@@ -96,9 +97,9 @@ module _ {D H : Type 0} (old : Parts D H) (i : ℕ) (p : Peer) (tied : IsTied ol
       asks_blocks = record {
         shut = λ shut. absurd (elim shut [ inl chokes ↦ (let x = unchoked in cc) | inr apathetic ↦ (let x = wanted in cc) ]);
         are_open = is_open;
-        distinct = distinct;
-        few = (let size = ap (λ (bs : List BlockId). length bs) asked ∙ length-append (asked_of old.book p.key) blocks in omega (arith, size, short));
-        all = λ _ _. elim all [
+        distinct = distinct_in_book p.key old.book book blocks now (λ _. joined) kept;
+        few = omega (arith, size_with_pairs p.key old.book book blocks now (λ _. joined), kept.short p.key);
+        all = λ _ _. elim (none_left p.key old.book book blocks now (λ _. joined) laws next all) [
           | inl absent ↦ absurd (absent joined)
           | inr rest ↦ elim rest [
             | inl full ↦ inl full
@@ -116,6 +117,7 @@ module _ {D H : Type 0} (old : Parts D H) (i : ℕ) (p : Peer) (tied : IsTied ol
         now =
             ap (λ (ps : List PeerState). record (state_of old) { peers = ps })
             (ap (λ (ps : List Peer). map (peer_of book) ps) (sym (set_id old.peers.items i here))
-            ∙ peers_set old.book book old.peers.items i tied.in_order here others p)
-            ∙ ap (λ (bs : List BlockId). with_peer (state_of old) i (record (peer_of old.book p) { asked = bs })) asked;
+            ∙ peers_set old.book book old.peers.items i tied.in_order here (others_with_pairs p.key old.book book blocks now) p)
+            ∙ ap (λ (bs : List BlockId). with_peer (state_of old) i (record (peer_of old.book p) { asked = bs }))
+            (asked_with_pairs p.key old.book book blocks now (λ _. joined));
       }

@@ -1,5 +1,5 @@
 -- Requests that are sent one by one, each of a whole block.
-use Rattle.bt_machine.proofs.Base.{◌≡◌, ℕ, ◌+◌, ◌<◌, List, [], ◌∷◌, ◌++◌, length, take, get_or, refl, sym, ap, ◌∙◌, append-nil, Metainfo, BlockId, PeerKey, Ask, Request}
+use Rattle.bt_machine.proofs.Base.{◌≡◌, ℕ, ◌+◌, ◌<◌, List, [], ◌∷◌, ◌++◌, length, take, get_or, refl, sym, ap, ◌∙◌, Metainfo, BlockId, PeerKey, Ask, Request}
 use Rattle.std.proofs.Common.{append_assoc}
 use Rattle.std.proofs.lemmas.List.{take_more}
 use Rattle.bt_machine.specs.declared.answer.Frame.TheVariants.{Message as message_frame}
@@ -21,9 +21,6 @@ one_more s p (c ∷ blocks) sent b one each request = (
 )
 
 module _ (torrent : Metainfo) (key : PeerKey) (blocks : List BlockId) (before : List Sent) where
-  pub none_sent : AreRequestsSent torrent key [] before before
-  none_sent = record { sent = []; requests = λ s p same keyed. refl; behind = sym (append-nil before) }
-
   pub one_sent : (i : ℕ) (d : BlockId) (old new : List Sent) (ask : Ask) → i < length blocks → AreRequestsSent torrent key (take i blocks) before old
       → new ≡ old ++ (key, message_frame (Request ask)) ∷ [] → IsRangeOf torrent ask.piece ask.begin ask.length (get_or blocks i d)
       → AreRequestsSent torrent key (take (i + 1) blocks) before new

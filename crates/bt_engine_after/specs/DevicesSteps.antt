@@ -10,7 +10,7 @@ use Rattle.bt_machine.specs.State.{EngineState}
 use Rattle.bt_machine.specs.Devices.{DeviceCalls, HaveCalls}
 use Rattle.bt_machine.specs.LogCalls.{LogCall, on_devices, AreLogCalls}
 use Rattle.bt_machine.specs.Flush.{data_files, syncs_of, StepFlush}
-use Rattle.bt_engine_pending.specs.Writing.{WritesHints}
+use Rattle.bt_engine_state.specs.Writing.{WritesHints}
 use Rattle.bt_engine_state.specs.Parts.{file_of, disk_of}
 use Rattle.bt_engine_state.specs.declared.open_log.OpenLog.{OpenLog}
 use Rattle.bt_engine_state.specs.declared.slot.Slot.{Slot}

@@ -8,14 +8,14 @@ use crate::asking::ask_blocks;
 use crate::hash_requests::request_hashes;
 use crate::interest::tell_interest;
 use crate::sending::{send_message, send_requests};
-use bt_book::PeerKey;
+use bt_book::{MAX_REQUESTS, PeerKey};
 use bt_disk::Disk;
 use bt_engine_state::Parts;
 use bt_machine::Frame;
 use bt_tree::NodeHash;
 
-/// How many frames follow at most: one tells our interest, one is a hash request, and 16 request blocks.
-pub const MAX_FRAMES: usize = 18;
+/// How many frames follow at most: one tells our interest, one is a hash request, and the others request blocks.
+pub const MAX_FRAMES: usize = 2 + MAX_REQUESTS;
 
 /// Does what follows from an event for the peer that stands at `index`: tells it a change of our interest,
 /// sends it a hash request, and requests blocks of it. The frames come after those that are there, which

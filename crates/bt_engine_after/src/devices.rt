@@ -8,8 +8,7 @@ ghost use Rattle.bt_engine_state.specs.Ties.{IsTied};
 ghost use Rattle.bt_engine_after.specs.DevicesSteps.{SyncsSlot, SyncsSlots, WritesLog};
 
 use bt_disk::{DeviceFault, Disk};
-use bt_engine_pending::writing_flushes;
-use bt_engine_state::{OpenLog, Parts, Slot};
+use bt_engine_state::{OpenLog, Parts, Slot, writing_flushes};
 use bt_machine::FlushError;
 use bt_store::FileStore;
 use bt_tree::NodeHash;

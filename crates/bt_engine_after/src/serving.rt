@@ -78,13 +78,13 @@ fn begin_turn<D: Disk + Drop, H: NodeHash>(
     ensures capacity { vec_capacity send.old ≤ vec_capacity send.new }
     ensures rest { KeepsDevices parts.old parts.new }
 {
-    serve(&mut parts.peers, served, send);
+    choke_and_unchoke(&mut parts.peers, served, send);
     parts.turn = parts.turn.wrapping_add(1);
 }
 
-/// Serves the peers of these keys and no others, and sends a choke or an unchoke to each for which that
+/// Unchokes the peers of these keys and chokes all others: a choke or an unchoke is sent to each for which that
 /// changes.
-fn serve(peers: &mut [Peer], served: &[PeerKey], send: &mut Vec<(PeerKey, Frame)>)
+fn choke_and_unchoke(peers: &mut [Peer], served: &[PeerKey], send: &mut Vec<(PeerKey, Frame)>)
     requires { vec_len send.old + length peers.old ≤ vec_capacity send.old }
     ensures peers { peers.new ≡ map (served_peer served.now) peers.old }
     ensures sent { (book : BookState) → send.new.items
@@ -93,14 +93,14 @@ fn serve(peers: &mut [Peer], served: &[PeerKey], send: &mut Vec<(PeerKey, Frame)
     ensures capacity { vec_capacity send.old ≤ vec_capacity send.new }
 {
     for peer in peers.iter_mut() {
-        if let Some(message) = serve_peer(peer, served) {
+        if let Some(message) = choke_or_unchoke(peer, served) {
             send.push_reserved((peer.key, Frame::Message(message)));
         }
     }
 }
 
-/// Serves the peer or not, and gives what it is to be told, where that has changed.
-fn serve_peer(peer: &mut Peer, served: &[PeerKey]) -> Option<Message>
+/// Unchokes or chokes the peer, and gives what it is to be told, where that has changed.
+fn choke_or_unchoke(peer: &mut Peer, served: &[PeerKey]) -> Option<Message>
     ensures peer { peer.new ≡ served_peer served.now peer.old }
     ensures told { (book : BookState) → message_sent (peer_of book peer.old) result
         ≡ served_sent book served.now peer.old }

@@ -26,7 +26,7 @@ use Rattle.bt_engine_state.proofs.Lists.{get_mapped}
 use Rattle.bt_engine_state.proofs.PeerLists.{peers_set}
 use Rattle.bt_engine_state.proofs.Ties.{tied_set, tied_again}
 use Rattle.bt_wire.specs.declared.message.Ask.{Ask}
-use Rattle.bt_engine_messages.specs.Piece.{cancels_to}
+use Rattle.bt_engine_messages.specs.Outcome.{cancels_to}
 use Rattle.bt_engine_messages.specs.PieceSteps.{AreAskers, IsBlockOf}
 use Rattle.bt_engine_messages.proofs.Cancels.{cancels_are}
 

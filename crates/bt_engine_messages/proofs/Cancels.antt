@@ -21,7 +21,7 @@ use Rattle.bt_engine_state.specs.Parts.{state_of, peer_of}
 use Rattle.bt_engine_state.specs.Ties.{IsTied}
 use Rattle.bt_engine_state.specs.declared.peer.Peer.{Peer}
 use Rattle.bt_engine_state.specs.declared.parts.Parts.{Parts}
-use Rattle.bt_engine_messages.specs.Piece.{cancels_to}
+use Rattle.bt_engine_messages.specs.Outcome.{cancels_to}
 use Rattle.bt_engine_messages.specs.PieceSteps.{AreAskers}
 
 -- the peers of the machine that are asked for the block, but for one

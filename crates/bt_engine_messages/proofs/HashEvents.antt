@@ -1,5 +1,5 @@
 -- Hashes that come, over the parts of an engine.
-use Rattle.bt_machine.proofs.Base.{[], ◌≡◌, ◌≢◌, ℕ, ◌<◌, inl, inr, AllPairs, cases_lt, lt-ltb, false, sum_by, List, length, map, is_some, Option, Some, None, refl, sym, ap, ◌∙◌, subst, arith, slice_get, option_map, PeerKey, Facts, HashKey}
+use Rattle.bt_machine.proofs.Base.{[], ◌≡◌, ◌≢◌, ℕ, ◌<◌, inl, inr, AllPairs, cases_lt, lt-ltb, false, sum_by, List, length, map, is_some, Option, Some, None, refl, sym, ap, ◌∙◌, subst, arith, slice_get, option_map, PeerKey, Facts, HashKey, Message, Hashes}
 use Rattle.std.specs.Global.{Vec}
 use Rattle.std.specs.Prelude.{nat_lt}
 use Rattle.std.specs.Vec.{with_item, with_items, vec_len}
@@ -28,19 +28,22 @@ use Rattle.bt_engine_state.specs.declared.slot.Slot.{Slot}
 use Rattle.bt_engine_state.specs.declared.parts.Parts.{Parts}
 use Rattle.bt_engine_state.proofs.BlockChanges.{EachFits, followed_alike, followed_tied, tied_followed, state_kept}
 use Rattle.bt_engine_state.proofs.Chains.{roots_numbered, tree_leads}
+use Rattle.bt_engine_state.proofs.DeviceCalls.{have_none}
 use Rattle.bt_engine_state.proofs.Leaves.{leaves_by, one_grown, same_names, still_joined}
 use Rattle.bt_engine_state.proofs.SlotChanges.{fits_trees}
 use Rattle.bt_engine_state.proofs.Lists.{get_mapped}
 use Rattle.bt_engine_state.proofs.Ties.{state_set}
 use Rattle.bt_engine_state.proofs.WaitingBlocks.{none_waits}
-use Rattle.bt_engine_messages.specs.Hashes.{TakesHashes, IsNoteRoom}
+use Rattle.bt_engine_messages.specs.Outcome.{IsHandled}
+use Rattle.bt_engine_messages.specs.Hashes.{IsNoteRoom}
 use Rattle.bt_engine_messages.specs.NoteRooms.{slot_room, run_room}
 use Rattle.bt_engine_messages.specs.HashesSteps.{AreNotesOf, IsBehind}
 use Rattle.bt_engine_messages.specs.HintSteps.{hint_of, kept_hint}
 use Rattle.bt_engine_messages.specs.LearningSteps.{HasRoot, AreRefused, Learns, ChangesByHashes, FitLengths, IsRoomFor}
 use Rattle.bt_engine_messages.specs.declared.learning.Learnt.{Learnt}
-use Rattle.bt_engine_messages.specs.declared.learning.Learnt.TheVariants.{Refused, Settled}
-use Rattle.bt_engine_messages.proofs.HashesHandled.{at_file, nothing_called, refused_so, learning_calls, have_learning_calls, learnt_so}
+use Rattle.bt_engine_messages.specs.declared.outcome.Outcome.TheVariants.{Closed, Stays}
+use Rattle.bt_engine_messages.specs.declared.outcome.Reply.TheVariants.{Settled}
+use Rattle.bt_engine_messages.proofs.HashesHandled.{at_file, refused_so, learning_calls, have_learning_calls, learnt_so}
 use Rattle.bt_engine_messages.proofs.KeptHints.{keeps_none, keeps_proofs}
 use Rattle.bt_engine_messages.proofs.NotedBlocks.{slots_noted}
 use Rattle.bt_engine_messages.proofs.Vectors.{vec_kept}
@@ -74,14 +77,14 @@ parts_kept {D} {H} old trees slots tree_count same_trees slot_count same_slots =
 -- hashes that are refused
 pub takes_refused : {D H : Type 0} (conduct : Conduct D) (dig : List ℕ → List ℕ) (key : HashKey) (digests : List ℕ)
     (old new : Parts D H) (i : ℕ) (why : Why) → new ≡ old → AreRefused dig old.trees.items key digests why
-    → TakesHashes conduct dig old i key digests (Refused why) new
-takes_refused {D} {H} conduct dig key digests old new i why same refusal = (
-  [],
-  [],
-  subst (λ (x : Parts D H). HaveCalls conduct (disks_of old) [] (disks_of x)) (sym same) (nothing_called conduct (disks_of old)),
-  λ p at. refused_so dig key digests old.trees.items why refusal (state_of old) i p (state_of new) refl (ap (λ (x : Parts D H). state_of x) same),
-  keeps_none old,
-)
+    → IsHandled conduct dig old i (Message (Hashes key digests)) (Closed why) new
+takes_refused {D} {H} conduct dig key digests old new i why same refusal = record {
+  calls = [];
+  proofs = [];
+  made = subst (λ (x : Parts D H). HaveCalls conduct (disks_of old) [] (disks_of x)) (sym same) (have_none conduct (disks_of old));
+  handles = λ p at. refused_so dig key digests old.trees.items why refusal (state_of old) i p (state_of new) refl (ap (λ (x : Parts D H). state_of x) same);
+  keeps = keeps_none old refl;
+}
 
 no_store : {D : Type 0} (o : Option (StoreView D)) → option_map (λ store. store.file_length) o ≡ None → o ≡ None
 no_store None e = refl
@@ -169,15 +172,16 @@ module _ {D H : Type 0} (conduct : Conduct D) (dig : List ℕ → List ℕ) (key
     pub takes_learnt : (hash : HashState) → q ≡ record p { hash = hash } → Resolves key Idle p.hash hash
         → ((known : PeerKey) → asked_of next.book known ≡ asked_of old.book known)
         → (hint kept : Option Hint) → hint ≡ hint_of (is_some old.log) key digests → kept ≡ kept_hint l.old l.new hint
-        → TakesHashes conduct dig old i key digests (Settled notes kept) new_parts
+        → IsHandled conduct dig old i (Message (Hashes key digests)) (Stays (Settled notes) kept) new_parts
     takes_learnt hash is resolves asked hint kept made keeps =
         let calls = learning_calls dig key digests old.trees.items conduct old.slots.items grown settled l in
-        let proofs = new_proofs key digests l.old l.new in (
-          calls,
-          proofs,
-          subst (λ (ss : List (Slot D H)). HaveCalls conduct (disks_of old) calls (map disk_of ss)) (sym slots)
-              (have_learning_calls dig key digests old.trees.items conduct old.slots.items grown settled l),
-          λ x at.
+        let proofs = new_proofs key digests l.old l.new in
+        record {
+          calls = calls;
+          proofs = proofs;
+          made = subst (λ (ss : List (Slot D H)). HaveCalls conduct (disks_of old) calls (map disk_of ss)) (sym slots)
+              (have_learning_calls dig key digests old.trees.items conduct old.slots.items grown settled l);
+          handles = λ x at.
               let own : peer_of old.book p ≡ x = some_is (sym (get_mapped (peer_of old.book) old.peers.items i here) ∙ at) in
               let after : peer_of old.book q ≡ record x { hash = hash } =
               ap (peer_of old.book) is ∙ ap {A = PeerState} {B = PeerState} (λ y. record y { hash = hash }) own in
@@ -185,9 +189,9 @@ module _ {D H : Type 0} (conduct : Conduct D) (dig : List ℕ → List ℕ) (key
               ∙ ap (λ (y : PeerState). with_peer (record (state_of old) { trees = grown; files = map file_of settled }) i y) after in
               subst (λ (t : EngineState). HandlesHashes dig (state_of old) i x key digests calls (record no_effect { notes = notes.items; proofs = proofs }) t) (sym last)
               (learnt_so dig key digests old.trees.items conduct old.slots.items grown settled l (state_of old) i x hash refl refl
-              (subst (λ (y : PeerState). Resolves key Idle y.hash hash) own resolves)),
-          keeps_proofs key digests old l.old l.new hint kept made keeps,
-        )
+              (subst (λ (y : PeerState). Resolves key Idle y.hash hash) own resolves));
+          keeps = keeps_proofs key digests old l.claims l.old l.new hint kept made keeps;
+        }
 
 -- room for the notes of the parts is room for those of their trees and slots
 pub room_of : {D H : Type 0} (old : Parts D H) (trees : List Facts) (slots : List (Slot D H)) (key : HashKey) (room : ℕ)

@@ -2,7 +2,6 @@
 use Rattle.bt_machine.proofs.Base.{◌≡◌, ◌≢◌, ℕ, zero, suc, ◌+◌, ◌<◌, ◌≤◌, inl, inr, Bool, true, false, List, [], ◌∷◌, ◌++◌, length, map, flat_map, filter, Option, Some, None, refl, sym, ap, ◌∙◌, subst, arith, ◌==◌, eq-eqb, eqb-true, slice_get, slice_set, option_map, Contains, filter-append, length-map, range_with_len, append-nil, Facts, Call, BlockRead, call_of, HashKey, cases_lt}
 use Rattle.std.proofs.lemmas.List.{map-append}
 use Rattle.bt_disk.specs.Calls.{HasCalls}
-use Rattle.bt_disk.proofs.CallLists.{has_none}
 use Rattle.bt_machine.proofs.Lists.{some_is, some_below, set_same, get_map, get_some, contains_none, contains_map, map_contains, contains_flat_map, range_limits}
 use Rattle.bt_machine.specs.State.{EngineState, PeerState, FileState}
 use Rattle.bt_machine.specs.Devices.{DeviceCalls, HaveCalls, calls_of, reads_at}
@@ -81,15 +80,6 @@ get_map_is f (x ∷ xs) (suc i) = get_map_is f xs i
 no_element : {X : Type 0} (xs : List X) (i : ℕ) (o : Option X) → slice_get xs i ≡ o → length xs ≤ i → o ≡ None
 no_element xs i None at past = refl
 no_element xs i (Some x) at past = absurd (let lt = some_below xs i at in omega arith)
-
-pub nothing_called : {D : Type 0} (conduct : Conduct D) (disks : List (Option D))
-    → HaveCalls conduct disks [] disks
-nothing_called conduct disks = record {
-  count = refl;
-  none = λ file. (λ e. e, λ e. e);
-  of_devices = λ file call c. absurd (contains_none c);
-  each = λ file after here. (after, here, has_none conduct after);
-}
 
 module _ {D H : Type 0} (conduct : Conduct D) (dig : List ℕ → List ℕ) (k : Facts) (tree from count : ℕ)
     (old new : List (Slot D H)) {notes : List Note} (s : SettlesSlots conduct dig k tree from count old [] notes new) where

@@ -10,7 +10,7 @@ use Rattle.bt_machine.specs.State.{Hint, proof_of}
 use Rattle.bt_machine.specs.HashMessages.{new_proofs}
 use Rattle.bt_engine_state.specs.declared.open_log.OpenLog.{OpenLog}
 use Rattle.bt_engine_state.specs.declared.parts.Parts.{Parts}
-use Rattle.bt_engine_messages.specs.Hashes.{KeepsProofs}
+use Rattle.bt_engine_messages.specs.Outcome.{KeepsProofs}
 use Rattle.bt_engine_messages.specs.HintSteps.{hint_of, kept_hint}
 
 -- ---- the nodes that were added
@@ -46,21 +46,11 @@ module _ (key : HashKey) (digests : List ℕ) where
       by true = refl
       by false = refl
 
-  -- with a log the hint is the machine's proof, and without one there is none
-  pub keeps_proofs : {D H : Type 0} (parts : Parts D H) (old new : Facts) (hint kept : Option Hint) → hint ≡ hint_of (is_some parts.log) key digests
-      → kept ≡ kept_hint old new hint → KeepsProofs parts kept (new_proofs key digests old new)
-  keeps_proofs {D} parts old new hint kept made is = record {
-    logged = λ on. kept_alike old new
-        ∙ sym (ap option_to_list (is ∙ ap (kept_hint old new) (made ∙ ap (λ b. hint_of b key digests) on)));
-    unlogged = λ off. is
-        ∙ ap (kept_hint old new) (made ∙ ap (λ (o : Option (OpenLog D)). hint_of (is_some o) key digests) off) ∙ kept_none old new;
-  }
-
   readable : {claim : Claim} → IsClaimBy key digests claim → CanBeRead (proof_of key (digests_in digests))
   readable by =
       (by.shape, chunk_count (length digests / 32) digests ∙ times_over (length digests) (answer_size key.length key.layers) by.size)
 
-  pub can_be_read : {claim : Claim} → IsClaimBy key digests claim → (logged : Bool) (old new : Facts) {hint kept : Option Hint}
+  can_be_read : {claim : Claim} → IsClaimBy key digests claim → (logged : Bool) (old new : Facts) {hint kept : Option Hint}
       → hint ≡ hint_of logged key digests → kept ≡ kept_hint old new hint → IfSome kept CanBeRead
   can_be_read claims logged old new made is =
       subst (λ (o : Option Hint). IfSome o CanBeRead) (sym (is ∙ ap (kept_hint old new) made))
@@ -71,6 +61,21 @@ module _ (key : HashKey) (digests : List ℕ) where
       each true false = tt
       each false logged = tt
 
--- refused hashes give no hint, and the machine keeps no proof of them
-pub keeps_none : {D H : Type 0} (parts : Parts D H) → KeepsProofs parts None []
-keeps_none parts = record { logged = λ on. refl; unlogged = λ off. refl }
+  -- with a log the hint is the machine's proof, and without one there is none
+  pub keeps_proofs : {D H : Type 0} (parts : Parts D H) {claim : Claim} → IsClaimBy key digests claim → (old new : Facts) (hint kept : Option Hint)
+      → hint ≡ hint_of (is_some parts.log) key digests → kept ≡ kept_hint old new hint → KeepsProofs parts kept (new_proofs key digests old new)
+  keeps_proofs {D} parts claims old new hint kept made is = record {
+    logged = λ on. kept_alike old new
+        ∙ sym (ap option_to_list (is ∙ ap (kept_hint old new) (made ∙ ap (λ b. hint_of b key digests) on)));
+    unlogged = λ off. is
+        ∙ ap (kept_hint old new) (made ∙ ap (λ (o : Option (OpenLog D)). hint_of (is_some o) key digests) off) ∙ kept_none old new;
+    readable = can_be_read claims (is_some parts.log) old new made is;
+  }
+
+-- where there is no hint, the machine keeps no proof
+pub keeps_none : {D H : Type 0} (parts : Parts D H) {hint : Option Hint} → hint ≡ None → KeepsProofs parts hint []
+keeps_none parts none = record {
+  logged = λ on. sym (ap option_to_list none);
+  unlogged = λ off. none;
+  readable = subst (λ (o : Option Hint). IfSome o CanBeRead) (sym none) tt;
+}

@@ -1,5 +1,5 @@
 -- A request for a range of a piece, in the parts of an engine.
-use Rattle.bt_machine.proofs.Base.{[], ◌≡◌, ◌≢◌, ℕ, ◌+◌, ◌-◌, ◌^◌, min, Bool, true, false, List, ◌∷◌, ◌++◌, map, Some, refl, sym, ap, ◌∙◌, subst, slice_get, slice_set, option_and_then, Contains, Contains-append_right, Span, Facts, BlockRead, given, failed, call_of, IsRight, BlockState, Missing, Marked, Ask, Piece, PeerKey}
+use Rattle.bt_machine.proofs.Base.{[], ◌≡◌, ◌≢◌, ℕ, ◌+◌, ◌-◌, ◌^◌, min, Bool, true, false, List, ◌∷◌, ◌++◌, map, Some, None, refl, sym, ap, ◌∙◌, subst, slice_get, slice_set, option_and_then, Contains, Contains-append_right, Span, Facts, BlockRead, given, failed, call_of, IsRight, BlockState, Missing, Marked, Ask, Message, Request, Piece, PeerKey}
 use Rattle.std.specs.Global.{Vec}
 use Rattle.std.specs.Vec.{with_item}
 use Rattle.std.specs.Bool.{OnFalse}
@@ -23,14 +23,16 @@ use Rattle.bt_engine_state.specs.declared.parts.Parts.{Parts}
 use Rattle.bt_engine_state.proofs.Lists.{get_mapped}
 use Rattle.bt_engine_state.proofs.SlotChanges.{file_here}
 use Rattle.bt_engine_state.proofs.Ties.{tied_set, state_set}
-use Rattle.bt_engine_messages.specs.Request.{TakesRequest, effect_of}
+use Rattle.bt_engine_messages.specs.Outcome.{IsHandled, effect_of}
 use Rattle.bt_engine_messages.specs.RequestSteps.{CanRead, IsLookedAt, SendsFromSlot, StopsInSlot}
 use Rattle.bt_engine_messages.specs.ServingSteps.{Finds, damaged, fault}
 use Rattle.bt_engine_messages.specs.SpansSteps.{IsShortSpan}
-use Rattle.bt_engine_messages.specs.declared.request.Served.{Served}
-use Rattle.bt_engine_messages.specs.declared.request.Served.TheVariants.{Sent, Found}
+use Rattle.bt_engine_messages.specs.declared.outcome.Outcome.{Outcome}
+use Rattle.bt_engine_messages.specs.declared.outcome.Outcome.TheVariants.{Stays}
+use Rattle.bt_engine_messages.specs.declared.outcome.Reply.TheVariants.{Sends, Noted}
 use Rattle.bt_engine_messages.specs.declared.serving.ReadFault.{ReadFault}
 use Rattle.bt_engine_messages.specs.declared.serving.ReadFault.TheVariants.{Damaged, Device}
+use Rattle.bt_engine_messages.proofs.KeptHints.{keeps_none}
 use Rattle.bt_engine_messages.proofs.SpanReads.{spans_first, spans_last}
 use Rattle.bt_engine_messages.proofs.Stores.{has_state}
 use Rattle.bt_engine_messages.proofs.StoreChanges.{ChangesParts, ChangesBlock, is_file, file_before, have_calls, state_same, tied_same, state_new}
@@ -96,6 +98,12 @@ finds_device dig k i read old new (fault e is after) = (e, after)
 
 -- ---- what a request comes to
 
+abbrev pub sent_whole : Ask → Vec ℕ → Outcome
+sent_whole ask bytes = Stays (Sends (Piece ask.piece ask.begin bytes.items)) None
+
+abbrev pub just_noted : Note → Outcome
+just_noted note = Stays (Noted note) None
+
 -- the flag of the peer that stands there
 pub choking_is : {D H : Type 0} (parts : Parts D H) (i : ℕ) {p : Peer} → slice_get parts.peers.items i ≡ Some p → (x : PeerState)
     → slice_get (state_of parts).peers i ≡ Some x → x.am_choking ≡ p.am_choking
@@ -103,12 +111,12 @@ choking_is parts i here x at =
     ap (λ (x : PeerState). x.am_choking) (some_is (sym at ∙ get_mapped (peer_of parts.book) parts.peers.items i here))
 
 -- what the machine makes of the peer it makes of whatever stands there
-takes_by : {D H : Type 0} {dig : List ℕ → List ℕ} {old : Parts D H} {i : ℕ} {ask : Ask} {span : Span} (look : IsLookedAt old i ask span) (outcome : Served)
+takes_by : {D H : Type 0} {dig : List ℕ → List ℕ} {old : Parts D H} {i : ℕ} {ask : Ask} {span : Span} (look : IsLookedAt old i ask span) (outcome : Outcome)
     (calls : DeviceCalls) (new : EngineState)
-    → HandlesRequest dig (state_of old) i (peer_of old.book look.peer) ask calls (effect_of (peer_of old.book look.peer) ask outcome) new
-    → (x : PeerState) → slice_get (state_of old).peers i ≡ Some x → HandlesRequest dig (state_of old) i x ask calls (effect_of x ask outcome) new
+    → HandlesRequest dig (state_of old) i (peer_of old.book look.peer) ask calls (effect_of (peer_of old.book look.peer) outcome []) new
+    → (x : PeerState) → slice_get (state_of old).peers i ≡ Some x → HandlesRequest dig (state_of old) i x ask calls (effect_of x outcome []) new
 takes_by {dig = dig} {old = old} {i = i} {ask = ask} look outcome calls new handles x at =
-    subst (λ (x : PeerState). HandlesRequest dig (state_of old) i x ask calls (effect_of x ask outcome) new)
+    subst (λ (x : PeerState). HandlesRequest dig (state_of old) i x ask calls (effect_of x outcome []) new)
     (some_is (sym (get_mapped (peer_of old.book) old.peers.items i look.here) ∙ at)) handles
 
 module _ {D H : Type 0} {conduct : Conduct D} {dig : List ℕ → List ℕ} {old : Parts D H} {i : ℕ} {ask : Ask} {span : Span}
@@ -124,13 +132,15 @@ module _ {D H : Type 0} {conduct : Conduct D} {dig : List ℕ → List ℕ} {old
     pub tied_sent : IsTied (record old { slots = next.slots; peers = with_item old.peers i (record look.peer { payload = payload }) })
     tied_sent = tied_set (record old { slots = next.slots }) i (record look.peer { payload = payload }) (tied_same parts same) look.here refl
 
-    pub takes_sent : payload ≡ min (2 ^ 64 - 1) (look.peer.payload + span.length) → TakesRequest conduct dig old i ask (Sent bytes)
+    pub takes_sent : payload ≡ min (2 ^ 64 - 1) (look.peer.payload + span.length) → IsHandled conduct dig old i (Message (Request ask)) (sent_whole ask bytes)
         (record old { slots = next.slots; peers = with_item old.peers i (record look.peer { payload = payload }) })
     takes_sent paid =
-        let calls = map (call_of r.tree.file_length) r.sends.reads in (
-          calls_at span.file calls,
-          have_calls parts calls r.sends.calls,
-          takes_by look (Sent bytes) (calls_at span.file calls) (state_of (record old { slots = next.slots; peers = with_item old.peers i (record look.peer { payload = payload }) }))
+        let calls = map (call_of r.tree.file_length) r.sends.reads in
+        record {
+          calls = calls_at span.file calls;
+          proofs = [];
+          made = have_calls parts calls r.sends.calls;
+          handles = takes_by look (sent_whole ask bytes) (calls_at span.file calls) (state_of (record old { slots = next.slots; peers = with_item old.peers i (record look.peer { payload = payload }) }))
               (served span look.open_to look.place look.are (record {
                 file = file_before parts;
                 tree = r.tree;
@@ -143,8 +153,9 @@ module _ {D H : Type 0} {conduct : Conduct D} {dig : List ℕ → List ℕ} {old
                 after = state_set (record old { slots = next.slots }) i (record look.peer { payload = payload }) (tied_same parts same) look.here refl
                     ∙ ap (λ (s : EngineState). with_peer s i (peer_of old.book (record look.peer { payload = payload }))) (state_same parts same)
                     ∙ ap (λ n. with_peer (state_of old) i (peer_of old.book (record look.peer { payload = n }))) paid;
-              })),
-        )
+              }));
+          keeps = keeps_none old refl;
+        }
 
   -- it stops at a fault
   stops_so : {found : ReadFault} (r : StopsInSlot conduct dig old.slots.items old.trees.items span found next.slots.items) (note : Note) (new : EngineState)
@@ -153,7 +164,7 @@ module _ {D H : Type 0} {conduct : Conduct D} {dig : List ℕ → List ℕ} {old
       → HandlesRequest dig (state_of old) i x ask (calls_at span.file (map (call_of r.tree.file_length) (r.stops.reads ++ r.stops.read ∷ []))) (noting note) new
   stops_so r note new finds =
       let parts : ChangesParts old next span.file r.before r.after r.tree = record { tied = look.tied; shaped = look.shaped; store = r.changes } in
-      takes_by look (Found note) (calls_at span.file (map (call_of r.tree.file_length) (r.stops.reads ++ r.stops.read ∷ []))) new (stopped span look.open_to look.place look.are (record {
+      takes_by look (just_noted note) (calls_at span.file (map (call_of r.tree.file_length) (r.stops.reads ++ r.stops.read ∷ []))) new (stopped span look.open_to look.place look.are (record {
         file = file_before parts;
         tree = r.tree;
         before = r.stops.before;
@@ -188,7 +199,7 @@ module _ {D H : Type 0} {conduct : Conduct D} {dig : List ℕ → List ℕ} {old
     }
 
     pub takes_damaged : (book : BookState) (counts : Counts) → ((key : PeerKey) → asked_of book key ≡ asked_of old.book key)
-        → TakesRequest conduct dig old i ask (Found (DamagedNote (block_id span.file block))) (record old { slots = next.slots; book = book; counts = counts })
+        → IsHandled conduct dig old i (Message (Request ask)) (just_noted (DamagedNote (block_id span.file block))) (record old { slots = next.slots; book = book; counts = counts })
     unfolding damage_changes
     takes_damaged book counts asked =
         let kept : Marked ≡ Missing → Missing ≢ Missing → ¬ IsAsked (state_of old) (block_id span.file block) = λ e. absurd cc in
@@ -196,11 +207,14 @@ module _ {D H : Type 0} {conduct : Conduct D} {dig : List ℕ → List ℕ} {old
         let finds = machine_damaged found.0 found.1 found.2 (ap (λ n. noting (DamagedNote (block_id span.file n))) found.3) (
         state_new damage_changes book counts asked kept
         ∙ ap (λ (states : List BlockState). with_file (state_of old) span.file (record { tree = r.changes.slot.tree; states = states })) found.4
-        ) in (
-          calls_at span.file calls,
-          have_calls damage_changes.parts calls r.stops.calls,
-          stops_so r (DamagedNote (block_id span.file block)) (state_of (record old { slots = next.slots; book = book; counts = counts })) finds,
-        )
+        ) in
+        record {
+          calls = calls_at span.file calls;
+          proofs = [];
+          made = have_calls damage_changes.parts calls r.stops.calls;
+          handles = stops_so r (DamagedNote (block_id span.file block)) (state_of (record old { slots = next.slots; book = book; counts = counts })) finds;
+          keeps = keeps_none old refl;
+        }
 
   -- at a fault of the device
   module _ (r : StopsInSlot conduct dig old.slots.items old.trees.items span Device next.slots.items) where
@@ -213,10 +227,13 @@ module _ {D H : Type 0} {conduct : Conduct D} {dig : List ℕ → List ℕ} {old
     pub tied_device : IsTied (record old { slots = next.slots })
     tied_device = tied_same device_parts failed_read.1
 
-    pub takes_device : TakesRequest conduct dig old i ask (Found (DeviceNote span.file)) (record old { slots = next.slots })
+    pub takes_device : IsHandled conduct dig old i (Message (Request ask)) (just_noted (DeviceNote span.file)) (record old { slots = next.slots })
     takes_device =
-        let calls = map (call_of r.tree.file_length) (r.stops.reads ++ r.stops.read ∷ []) in (
-          calls_at span.file calls,
-          have_calls device_parts calls r.stops.calls,
-          stops_so r (DeviceNote span.file) (state_of (record old { slots = next.slots })) (machine_fault failed_read.0 refl (state_same device_parts failed_read.1)),
-        )
+        let calls = map (call_of r.tree.file_length) (r.stops.reads ++ r.stops.read ∷ []) in
+        record {
+          calls = calls_at span.file calls;
+          proofs = [];
+          made = have_calls device_parts calls r.stops.calls;
+          handles = stops_so r (DeviceNote span.file) (state_of (record old { slots = next.slots })) (machine_fault failed_read.0 refl (state_same device_parts failed_read.1));
+          keeps = keeps_none old refl;
+        }

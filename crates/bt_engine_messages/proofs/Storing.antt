@@ -1,5 +1,5 @@
 -- A missing block that is put into its file's store, in the parts of an engine.
-use Rattle.bt_machine.proofs.Base.{◌≡◌, ℕ, List, Some, refl, sym, ap, ◌∙◌, subst, slice_get, slice_set, option_and_then, map, BlockId, BlockState, Missing, Result, Ok, Err, Put, StoreError, Already, Wrong, PutMarked, PutWaiting, PeerKey, calls_of_put, states_after_put}
+use Rattle.bt_machine.proofs.Base.{[], ◌≡◌, ℕ, List, Some, refl, sym, ap, ◌∙◌, subst, slice_get, slice_set, option_and_then, map, BlockId, BlockState, Missing, Result, Ok, Err, Put, StoreError, Already, Wrong, PutMarked, PutWaiting, PeerKey, calls_of_put, states_after_put}
 use Rattle.bt_machine.proofs.Lists.{set_id}
 use Rattle.bt_store.specs.Arrival.{IsBlock}
 use Rattle.bt_book.specs.Book.{BookState, asked_of}
@@ -15,9 +15,9 @@ use Rattle.bt_engine_state.specs.Ties.{IsTied}
 use Rattle.bt_engine_state.specs.declared.counts.Counts.{Counts}
 use Rattle.bt_engine_state.specs.declared.parts.Parts.{Parts}
 use Rattle.bt_engine_state.proofs.BlockChanges.{asked_then}
-use Rattle.bt_engine_messages.specs.Piece.{effect_of, cancels_to}
+use Rattle.bt_engine_messages.specs.Outcome.{effect_of, cancels_to}
 use Rattle.bt_engine_messages.specs.PieceSteps.{AreAskers, CanPut, PutsInSlot, PutsBlock, IsBlockOf, state_after}
-use Rattle.bt_engine_messages.specs.declared.piece.Effect.{Effect as Said}
+use Rattle.bt_engine_messages.specs.declared.outcome.Outcome.{Outcome}
 use Rattle.bt_engine_messages.proofs.Stores.{has_state}
 use Rattle.bt_engine_messages.proofs.StoreChanges.{ChangesParts, ChangesBlock, is_file, file_before, have_calls, state_told_new}
 use Rattle.bt_disk.specs.Conduct.{Conduct}
@@ -77,22 +77,22 @@ module _ {D H : Type 0} {conduct : Conduct D} {dig : List ℕ → List ℕ} (old
 
   pub puts_block : (book : BookState) (counts : Counts) → ((key : PeerKey) → asked_of book key ≡ asked_after b Missing now (asked_of old.book key))
       → (others : List PeerKey) → AreAskers old.book b others
-      → (ask : Ask) (said : Said) → HasPutEffect b (cancels_to ask others) answer (effect_of said)
-      → PutsBlock conduct dig old b ask bytes said (record old { slots = next.slots; book = book; counts = counts })
+      → (ask : Ask) (outcome : Outcome) → ((p : PeerState) → HasPutEffect b (cancels_to ask others) answer (effect_of p outcome []))
+      → PutsBlock conduct dig old b ask bytes outcome (record old { slots = next.slots; book = book; counts = counts })
   unfolding put_changes
-  puts_block book counts asked others askers ask said effect = record {
+  puts_block book counts asked others askers ask outcome effect = record {
     others = others;
     calls = calls_at b.file (calls_of_put b.block bytes answer);
     askers = askers;
     made = have_calls parts (calls_of_put b.block bytes answer) p.made;
-    puts = record {
+    puts = λ q. record {
       file = file_before parts;
       tree = p.tree;
       result = answer;
       is_file = is_file parts;
       due = p.due;
       made = refl;
-      has_effect = effect;
+      has_effect = effect q;
       after = state_told_new put_changes book counts asked
           ∙ ap (λ (peers : List PeerState). record (with_file (state_of old) b.file (record (file_before parts) { states = p.after.states })) { peers = peers }) told_is
           ∙ ap (λ (states : List BlockState). record (with_file (state_of old) b.file (record (file_before parts) { states = states })) {

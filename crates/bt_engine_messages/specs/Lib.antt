@@ -1,3 +1,4 @@
+pub mod Outcome
 pub mod Peer
 pub mod Message
 pub mod HashRequestSteps
@@ -11,7 +12,6 @@ pub mod HashesSteps
 pub mod SlotSteps
 pub mod SpansSteps
 pub mod ServingSteps
-pub mod Piece
 pub mod PieceSteps
 pub mod Request
 pub mod RequestSteps

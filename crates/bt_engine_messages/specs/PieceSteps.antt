@@ -1,5 +1,5 @@
 -- How a block that comes is put into the store of its file.
-use Rattle.std.specs.Prelude.{◌≡◌, ◌↔◌, ℕ, List, Some, slice_get, Contains, Result, Ok, Err, ⊤}
+use Rattle.std.specs.Prelude.{[], ◌≡◌, ◌↔◌, ℕ, List, Some, slice_get, Contains, Result, Ok, Err, ⊤}
 use Rattle.bt_disk.specs.Conduct.{Conduct}
 use Rattle.bt_disk.specs.Calls.{HasCalls}
 use Rattle.bt_meta.specs.Files.{File}
@@ -18,14 +18,15 @@ use Rattle.bt_store.specs.declared.error.StoreError.{StoreError}
 use Rattle.bt_store.specs.declared.error.StoreError.TheVariants.{Range}
 use Rattle.bt_store.specs.declared.arrival.Put.{Put}
 use Rattle.bt_store.specs.declared.arrival.Put.TheVariants.{Already, Marked as PutMarked, Waiting as PutWaiting}
+use Rattle.bt_machine.specs.State.{PeerState}
 use Rattle.bt_machine.specs.Devices.{DeviceCalls, HaveCalls}
 use Rattle.bt_machine.specs.Arrival.{Puts}
 use Rattle.bt_engine_state.specs.Parts.{state_of, disks_of}
 use Rattle.bt_engine_state.specs.declared.slot.Slot.{Slot}
 use Rattle.bt_engine_state.specs.declared.parts.Parts.{Parts}
 use Rattle.bt_engine_messages.specs.SlotSteps.{HasStore, ChangesStore}
-use Rattle.bt_engine_messages.specs.Piece.{effect_of, cancels_to}
-use Rattle.bt_engine_messages.specs.declared.piece.Effect.{Effect as Said}
+use Rattle.bt_engine_messages.specs.Outcome.{effect_of, cancels_to}
+use Rattle.bt_engine_messages.specs.declared.outcome.Outcome.{Outcome}
 
 -- these are all bytes of a block of the torrent
 abbrev pub IsBlockOf : Metainfo → BlockId → List ℕ → Type 0
@@ -72,12 +73,14 @@ pub record AreAskers (book : BookState) (b : BlockId) (keys : List PeerKey) : Ty
   pub ascending : IsAscending keys
   pub exact : (key : PeerKey) → Contains keys key ↔ IsPair book key b
 
--- The machine puts it there by these calls, and says this of it. These peers were asked for it.
+-- The machine puts it there by these calls, with the effect of this outcome, whoever sent it. These peers were
+-- asked for it.
 pub record PutsBlock {D H : Type 0} (conduct : Conduct D)
-    (dig : List ℕ → List ℕ) (old : Parts D H) (b : BlockId) (ask : Ask) (bytes : List ℕ) (said : Said)
+    (dig : List ℕ → List ℕ) (old : Parts D H) (b : BlockId) (ask : Ask) (bytes : List ℕ) (outcome : Outcome)
     (new : Parts D H) : Type 0 where
   pub others : List PeerKey
   pub calls : DeviceCalls
   pub askers : AreAskers old.book b others
   pub made : HaveCalls conduct (disks_of old) calls (disks_of new)
-  pub puts : Puts dig (state_of old) b bytes (cancels_to ask others) calls (effect_of said) (state_of new)
+  pub puts : (p : PeerState) → Puts dig (state_of old) b bytes (cancels_to ask others) calls
+      (effect_of p outcome []) (state_of new)

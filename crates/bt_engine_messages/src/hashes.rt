@@ -1,22 +1,24 @@
 //! Hashes that come (BEP 52): the tree of their root learns them, the blocks that waited for them are read
 //! back, and the request book and the counts follow.
-ghost use Rattle.std.specs.Prelude.{◌≡◌, ◌+◌, ◌*◌, ◌≤◌, ℕ, IfOk, IfErr, IfSome};
+ghost use Rattle.std.specs.Prelude.{◌≡◌, ◌+◌, ◌*◌, ◌≤◌, ℕ, IfOk, IfErr};
 ghost use Rattle.bt_meta.specs.Limits.{max_file_count};
 ghost use Rattle.bt_book.specs.Book.{asked_of, peers_of};
 ghost use Rattle.bt_book.specs.declared.names.PeerKey.{PeerKey};
 ghost use Rattle.bt_sparse.specs.Answer.{max_run_length};
-ghost use Rattle.bt_resume.specs.Hint.{CanBeRead};
+ghost use Rattle.bt_wire.specs.declared.event.WireEvent.TheVariants.{Message as message_event};
+ghost use Rattle.bt_wire.specs.declared.message.Message.TheVariants.{Hashes};
 ghost use Rattle.bt_machine.specs.State.{EngineState};
 ghost use Rattle.bt_engine_state.specs.BlockChange.{AreFollowed};
 ghost use Rattle.bt_engine_state.specs.Parts.{state_of};
 ghost use Rattle.bt_engine_state.specs.Handling.{AreInShape, AreInShapeAt, KeepsLog, KeepsKeys};
-ghost use Rattle.bt_engine_messages.specs.NoteRooms.{note_count};
-ghost use Rattle.bt_engine_messages.specs.Hashes.{TakesHashes, IsNoteRoom, hint_in};
+ghost use Rattle.bt_engine_messages.specs.Outcome.{IsHandled, note_count};
+ghost use Rattle.bt_engine_messages.specs.Hashes.{IsNoteRoom};
 ghost use Rattle.bt_engine_messages.specs.HashesSteps.{IsNoteOf, HasNoted, IsBehind};
 
 use crate::hints::hint_for;
 use crate::learning::{Learnt, learn_hashes, settled_count};
 use crate::message::resolved_hash_state;
+use crate::outcome::{Outcome, Reply};
 use crate::runs::room_for;
 use bt_book::Book;
 use bt_disk::Disk;
@@ -39,13 +41,12 @@ pub fn take_hashes<D: Disk + Drop, H: NodeHash>(
     index: usize,
     key: &HashKey,
     digests: &[u8],
-) -> Result<Learnt, AllocError>
+) -> Result<Outcome, AllocError>
     requires { AreInShapeAt parts.old index }
-    ensures takes { IfOk result (λ learnt. TakesHashes D.conduct H.digest
-        parts.old index key.now digests.now learnt parts.new) }
-    ensures readable { IfOk result (λ learnt. IfSome (hint_in learnt) CanBeRead) }
-    ensures few { IfOk result (λ learnt.
-        (room : ℕ) → IsNoteRoom parts.old key.now room → note_count learnt ≤ room) }
+    ensures takes { IfOk result (λ outcome. IsHandled D.conduct H.digest parts.old index
+        (message_event (Hashes key.now digests.now)) outcome parts.new) }
+    ensures few { IfOk result (λ outcome.
+        (room : ℕ) → IsNoteRoom parts.old key.now room → note_count outcome ≤ room) }
     ensures keys { KeepsKeys parts.old parts.new }
     ensures rest { KeepsLog parts.old parts.new }
     ensures kept { IfErr result (λ _. parts.new ≡ parts.old) }
@@ -64,12 +65,12 @@ pub fn take_hashes<D: Disk + Drop, H: NodeHash>(
         hint,
         waits,
     )? {
-        Learnt::Refused(why) => Ok(Learnt::Refused(why)),
+        Learnt::Refused(why) => Ok(Outcome::Closed(why)),
         Learnt::Settled(notes, kept) => {
             let peer = &mut parts.peers[index];
             peer.hash = resolved_hash_state(peer.hash, *key, HashState::Idle);
             follow_notes(&parts.torrent, &mut parts.book, &mut parts.counts, &notes);
-            Ok(Learnt::Settled(notes, kept))
+            Ok(Outcome::Stays(Reply::Settled(notes), kept))
         }
     }
 }

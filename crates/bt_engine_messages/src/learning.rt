@@ -22,7 +22,7 @@ use std::alloc::{AllocError, Global};
 
 /// What hashes that came come to.
 #[derive(Debug, Drop)]
-pub enum Learnt {
+pub(crate) enum Learnt {
     /// The hashes are refused, and the peer is closed.
     Refused(Why),
     /// The tree of the hashes' root knows them, and this became of the blocks that waited for them. With a log,

@@ -7,9 +7,11 @@ ghost use Rattle.bt_machine.specs.State.{EngineState, PeerState};
 ghost use Rattle.bt_machine.specs.HashMessages.{Resolves};
 ghost use Rattle.bt_engine_state.specs.Handling.{IsTiedAt, KeepsDevices};
 ghost use Rattle.bt_engine_messages.specs.Peer.{IsPeerOf, KnowsPieces};
+ghost use Rattle.bt_engine_messages.specs.Outcome.{IsHandled, note_count};
 ghost use Rattle.bt_engine_messages.specs.Message.{IsOfPeer, IsPeerEvent, HandlesOfPeer, TakesMessage, TakesHave, TakesBitfield, asked_after};
 
 use crate::hello::hello_fault;
+use crate::outcome::{Outcome, Reply};
 use bt_book::{Book, PeerKey};
 use bt_disk::Disk;
 use bt_engine_state::{Parts, Peer};
@@ -19,8 +21,29 @@ use bt_tree::NodeHash;
 use bt_wire::{Message, WireEvent};
 
 /// Takes a wire event of the peer at `index` that changes this peer alone, or nothing: none of the messages
-/// that ask for data or hashes, or bring them. It says why the peer is closed, which is then as it was.
+/// that ask for data or hashes, or bring them. No device is called, whatever gives the digests. A peer that it
+/// closes is as it was.
 pub fn take_peer_event<D: Disk + Drop, H: NodeHash>(
+    parts: &mut Parts<D, H>,
+    index: usize,
+    event: &WireEvent,
+) -> Outcome
+    requires peer { IsTiedAt parts.old index }
+    requires pieces { KnowsPieces parts.old.torrent parts.old.peers.items index }
+    requires own { IsPeerEvent event.now }
+    ensures takes { (dig : List ℕ → List ℕ)
+        → IsHandled D.conduct dig parts.old index event.now result parts.new }
+    ensures few { note_count result ≡ 0 }
+    ensures rest { KeepsDevices parts.old parts.new }
+{
+    match fault_in(parts, index, event) {
+        Some(why) => Outcome::Closed(why),
+        None => Outcome::Stays(Reply::Nothing, None),
+    }
+}
+
+/// Takes such an event, and says why it closes the peer, if it does.
+fn fault_in<D: Disk + Drop, H: NodeHash>(
     parts: &mut Parts<D, H>,
     index: usize,
     event: &WireEvent,

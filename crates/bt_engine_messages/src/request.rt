@@ -1,16 +1,19 @@
 //! Requests for a range of a piece (BEP 3): which are ignored, which close their peer, and which are served.
 //! A block that is found damaged is missing from then on.
-ghost use Rattle.std.specs.Prelude.{◌≡◌, ◌≢◌, ◌<◌, IfErr, IfOk, Some, length};
+ghost use Rattle.std.specs.Prelude.{◌≡◌, ◌≢◌, ◌<◌, ◌≤◌, IfErr, IfOk, Some, length};
 ghost use Rattle.std.specs.Bool.{OnFalse, OnTrue};
+ghost use Rattle.bt_wire.specs.declared.event.WireEvent.TheVariants.{Message as message_event};
 ghost use Rattle.bt_machine.specs.Blocks.{block_id, state_at};
 ghost use Rattle.bt_machine.specs.Request.{AreMarked};
 ghost use Rattle.bt_engine_state.specs.Parts.{state_of};
 ghost use Rattle.bt_engine_state.specs.Handling.{AreInShapeAt, KeepsLog, KeepsKeys};
-ghost use Rattle.bt_engine_messages.specs.Request.{IsToServe, TakesRequest};
+ghost use Rattle.bt_engine_messages.specs.Outcome.{IsHandled, note_count};
+ghost use Rattle.bt_engine_messages.specs.Request.{IsToServe};
 ghost use Rattle.bt_engine_messages.specs.RequestSteps.{CanRead, IsLookedAt, SendsFromSlot, StopsInSlot};
 ghost use Rattle.bt_engine_messages.specs.ServingSteps.{IsRoomFor};
 ghost use Rattle.bt_engine_messages.specs.SpansSteps.{IsShortSpan};
 
+use crate::outcome::{Outcome, Reply};
 use crate::serving::{ReadFault, SpanBuffers, read_span, room_for};
 use crate::spans::{first_block, last_block, place_of};
 use bt_book::BlockId;
@@ -21,47 +24,36 @@ use bt_meta::Span;
 use bt_sparse::SparseTree;
 use bt_store::BlockState;
 use bt_tree::NodeHash;
-use bt_wire::Ask;
+use bt_wire::{Ask, Bytes, Message};
 use std::alloc::{AllocError, Global};
 
-/// What a request for a range of a piece comes to.
-#[derive(Debug, Drop)]
-pub enum Served {
-    /// It is ignored.
-    Nothing,
-    /// The peer is closed.
-    Closed(Why),
-    /// The bytes of the range are sent.
-    Sent(Vec<u8>),
-    /// A fault is found, and nothing is sent.
-    Found(Note),
-}
-
 /// Serves a request of the peer at `index` for a range of a piece: it is ignored while we choke the peer and
-/// where a block of the range is not marked. Errors: out of memory, and then no block was read and nothing has
-/// changed; memory is asked for only to serve.
+/// where a block of the range is not marked, and closes the peer where the range does not lie in one file. Else
+/// its bytes are sent, or a fault that is found is noted. Errors: out of memory, and then no block was read and
+/// nothing has changed; memory is asked for only to serve.
 pub fn take_request<D: Disk + Drop, H: NodeHash>(
     alloc: Global,
     parts: &mut Parts<D, H>,
     index: usize,
     ask: Ask,
-) -> Result<Served, AllocError>
+) -> Result<Outcome, AllocError>
     requires { AreInShapeAt parts.old index }
-    ensures takes { IfOk result (λ served.
-        TakesRequest D.conduct H.digest parts.old index ask served parts.new) }
+    ensures takes { IfOk result (λ outcome. IsHandled D.conduct H.digest parts.old index
+        (message_event (Message.Request ask)) outcome parts.new) }
+    ensures few { IfOk result (λ outcome. note_count outcome ≤ 1) }
     ensures kept { IfErr result (λ _. parts.new ≡ parts.old) }
     ensures needed { IfErr result (λ _. IsToServe (state_of parts.old) index ask) }
     ensures rest { KeepsLog parts.old parts.new }
     ensures keys { KeepsKeys parts.old parts.new }
 {
     if parts.peers[index].am_choking {
-        return Ok(Served::Nothing);
+        return Ok(Outcome::Stays(Reply::Nothing, None));
     }
     let Some(span) = place_of(&parts.torrent, ask) else {
-        return Ok(Served::Closed(Why::BadRequest));
+        return Ok(Outcome::Closed(Why::BadRequest));
     };
     if !are_marked(parts, span) {
-        return Ok(Served::Nothing);
+        return Ok(Outcome::Stays(Reply::Nothing, None));
     }
     // It is made before the first read, so that a refusal leaves all as it was.
     let room = room_for(alloc, span)?;
@@ -75,11 +67,13 @@ fn serve<D: Disk + Drop, H: NodeHash>(
     ask: Ask,
     span: Span,
     room: SpanBuffers,
-) -> Served
+) -> Outcome
     requires looked { IsLookedAt parts.old index ask span }
     requires short { IsShortSpan span }
     requires room { IsRoomFor span room }
-    ensures takes { TakesRequest D.conduct H.digest parts.old index ask result parts.new }
+    ensures takes { IsHandled D.conduct H.digest parts.old index
+        (message_event (Message.Request ask)) result parts.new }
+    ensures few { note_count result ≤ 1 }
     ensures rest { KeepsLog parts.old parts.new }
     ensures keys { KeepsKeys parts.old parts.new }
 {
@@ -87,7 +81,12 @@ fn serve<D: Disk + Drop, H: NodeHash>(
         Ok(bytes) => {
             let peer = &mut parts.peers[index];
             peer.payload = peer.payload.saturating_add(span.length as u64);
-            Served::Sent(bytes)
+            let message = Message::Piece {
+                piece: ask.piece,
+                begin: ask.begin,
+                bytes: Bytes::new(bytes),
+            };
+            Outcome::Stays(Reply::Sends(message), None)
         }
         Err(ReadFault::Damaged(block)) => {
             let block = BlockId {
@@ -102,9 +101,9 @@ fn serve<D: Disk + Drop, H: NodeHash>(
                 BlockState::Marked,
                 BlockState::Missing,
             );
-            Served::Found(Note::Damaged(block))
+            Outcome::Stays(Reply::Noted(Note::Damaged(block)), None)
         }
-        Err(ReadFault::Device) => Served::Found(Note::Device(span.file)),
+        Err(ReadFault::Device) => Outcome::Stays(Reply::Noted(Note::Device(span.file)), None),
     }
 }
 

@@ -1,8 +1,7 @@
--- An engine begins where its parts were bare and the devices are handed out.
-use Rattle.bt_machine.proofs.Base.{[], ◌≡◌, ℕ, zero, suc, ◌+◌, ◌<◌, ◌≤◌, inl, inr, is_some, Bool, true, false, List, ◌∷◌, length, map, replicate, Option, Some, None, refl, sym, ap, ◌∙◌, subst, arith, slice_get, option_map, option_map_or, option_and_then, length-map, length-replicate, cases_lt, block_count, File, Facts, BlockId, Missing, total_pieces}
-use Rattle.std.specs.Prelude.{◌↔◌, slice_index_or, Result, Ok, Err, OnOk}
-use Rattle.std.specs.Vec.{with_items}
-use Rattle.std.proofs.lemmas.List.{get_or_past, with_items_is}
+-- An engine begins where all blocks of its files are missing.
+use Rattle.bt_machine.proofs.Base.{[], ◌≡◌, ◌≢◌, ℕ, zero, suc, ◌<◌, ◌≤◌, inl, inr, Bool, true, false, List, ◌∷◌, length, map, replicate, Option, Some, None, refl, sym, ap, ◌∙◌, subst, arith, slice_get, option_map, option_map_or, option_and_then, length-map, length-replicate, cases_lt, block_count, File, Facts, AllPairs, BlockId, Missing, IsLawful, total_pieces}
+use Rattle.std.specs.Prelude.{◌↔◌, slice_index_or}
+use Rattle.std.proofs.lemmas.List.{get_or_past}
 use Rattle.std.proofs.lemmas.Option.{slice_get_past, get_or_from_slice_get}
 use Rattle.bt_store.specs.BlockStates.{is_marked, is_waiting}
 use Rattle.bt_store.specs.FileStore.{StoreView, new_states}
@@ -11,25 +10,29 @@ use Rattle.bt_book.specs.Blocks.{Blocks, IsInRange, member, of_file}
 use Rattle.bt_book.specs.Book.{PeerRequests}
 use Rattle.bt_meta.specs.Files.{file_of as entry_of}
 use Rattle.bt_meta.specs.declared.torrent.FileEntry.{FileEntry}
+use Rattle.bt_resume.specs.declared.hint.Hint.{Hint}
 use Rattle.bt_machine.proofs.Lists.{some_is, some_below, get_some, get_map, and_then_some}
 use Rattle.bt_meta.specs.Law.{LiesInItsPiece}
 use Rattle.bt_machine.specs.Shape.{IsShaped}
 use Rattle.bt_machine.specs.State.{EngineState, FileState}
 use Rattle.bt_machine.specs.Blocks.{state_at, piece_of, is_marked_in}
-use Rattle.bt_machine.specs.Start.{Starts, AreDevicesOf, IsNewFile, IsNew}
+use Rattle.bt_machine.specs.Start.{AreDevicesOf, IsNewFile, IsNew}
 use Rattle.bt_engine_state.proofs.Lists.{get_mapped}
-use Rattle.bt_engine_state.specs.Parts.{state_of, disks_of, file_of, disk_of, peer_of, pending_of, hints_of}
-use Rattle.bt_engine_state.specs.Ties.{FitsTree, is_waiting_in, IsTied, root_and_length}
+use Rattle.bt_engine_state.specs.Parts.{state_of, disks_of, file_of, disk_of}
+use Rattle.bt_engine_state.specs.Ties.{FitsTree, is_waiting_in, IsTied, HaveRoots, root_and_length}
 use Rattle.bt_engine_state.proofs.BlockChanges.{EachFits}
 use Rattle.bt_engine_state.proofs.WaitingBlocks.{none_counted}
 use Rattle.bt_engine_state.specs.declared.peer.Peer.{Peer}
-use Rattle.bt_engine_state.specs.declared.open_log.OpenLog.{OpenLog}
 use Rattle.bt_engine_state.specs.declared.slot.Slot.{Slot}
 use Rattle.bt_engine_state.specs.declared.parts.Parts.{Parts}
-use Rattle.bt_engine_start.specs.BeginningSteps.{AreNewParts, AreBareParts, HaveBegun}
+use Rattle.bt_engine_start.specs.declared.books.Books.{Books}
+use Rattle.bt_engine_start.specs.BooksSteps.{AreNewBooks}
 use Rattle.bt_engine_start.specs.DeviceSteps.{devices_in, IsNewSlot, AreNewSlots}
-use Rattle.bt_engine_start.specs.TreeSteps.{HasTreeAt}
-use Rattle.bt_engine_start.proofs.RootTrees.{tree_named}
+use Rattle.bt_engine_start.specs.MakingSteps.{AreTreesFrom}
+use Rattle.bt_engine_start.specs.RecoverySteps.{AreMissing, HaveBegun}
+use Rattle.bt_engine_start.specs.RootsSteps.{HasTreeAt, AreBareSlots, roots_and_lengths}
+use Rattle.bt_engine_start.proofs.ProvenTrees.{apart_alike}
+use Rattle.bt_engine_start.proofs.RootTrees.{names_of_trees, torrent_trees, tree_named}
 use Rattle.bt_engine_start.proofs.Sizes.{sizes_unmarked}
 
 -- ---- a set of no piece
@@ -170,35 +173,54 @@ module _ {D H : Type 0} {file : File} {slot : Slot D H} (new : IsNewSlot file sl
 
 -- ---- the parts, where their trees and books are new
 
-module _ {D H : Type 0} {dig : List ℕ → List ℕ} (parts : Parts D H) (is : AreNewParts dig parts) (count : length parts.slots.items ≡ length parts.torrent.files)
+-- the parts that are made anew each time that all begins
+abbrev pub books_of : {D H : Type 0} → Parts D H → Books
+books_of parts = record {
+  counts = parts.counts;
+  known = parts.known;
+  peers = parts.peers;
+  book = parts.book;
+}
+
+-- the torrent's trees, which have taken the proofs of hints, with the files of their roots, and its books
+pub record AreNewParts {D H : Type 0} (dig : List ℕ → List ℕ) (hints : List Hint) (parts : Parts D H) : Type 0 where
+  pub lawful : IsLawful parts.torrent.piece_length parts.torrent.files
+  pub trees : AreTreesFrom dig parts.torrent parts.roots.first_files.items hints parts.trees.items
+  pub apart : AllPairs (λ j k. j.root ≢ k.root) parts.trees.items
+  pub roots : HaveRoots parts
+  pub books : AreNewBooks parts.torrent (books_of parts)
+
+module _ {D H : Type 0} {dig : List ℕ → List ℕ} {hints : List Hint} (parts : Parts D H) (is : AreNewParts dig hints parts)
+    (count : length parts.slots.items ≡ length parts.torrent.files)
     (all_new : (i : ℕ) (file : File) (slot : Slot D H) → slice_get parts.torrent.files i ≡ Some file → slice_get parts.slots.items i ≡ Some slot
     → (file_of slot).states ≡ new_states file.length)
     (have_trees : (i : ℕ) (file : File) (slot : Slot D H) → slice_get parts.torrent.files i ≡ Some file → slice_get parts.slots.items i ≡ Some slot
     → HasTreeAt file (map root_and_length parts.trees.items) slot.tree) where
-  new_file : (i : ℕ) (file : File) (f : FileState) → slice_get parts.torrent.files i ≡ Some file → slice_get (map file_of parts.slots.items) i ≡ Some f
-      → IsNewFile file parts.trees.items f
-  new_file i file f listed at =
+  -- with the trees as they are, or as they were before they took the proofs
+  new_file : (trees : List Facts) → map root_and_length parts.trees.items ≡ map root_and_length trees → (i : ℕ) (file : File) (f : FileState)
+      → slice_get parts.torrent.files i ≡ Some file → slice_get (map file_of parts.slots.items) i ≡ Some f → IsNewFile file trees f
+  new_file trees names i file f listed at =
       let slot = get_map file_of parts.slots.items i at in
-      subst (λ (f : FileState). IsNewFile file parts.trees.items f) slot.2 (record {
+      subst (λ (f : FileState). IsNewFile file trees f) slot.2 (record {
         missing = all_new i file slot.0 listed slot.1;
-        has_tree = λ some. tree_named parts.trees.items slot.0.tree (have_trees i file slot.0 listed slot.1 some);
+        has_tree = λ some. tree_named trees slot.0.tree (ap (λ ps. slice_get ps slot.0.tree) (sym names) ∙ have_trees i file slot.0 listed slot.1 some);
       })
 
-  pub are_new : IsNew dig parts.torrent parts.trees.items (map file_of parts.slots.items)
-  are_new = record {
-    roots = is.trees.roots;
-    each_tree = is.trees.each;
-    count = length-map parts.slots.items file_of ∙ count;
-    each_file = new_file;
-  }
+  as_many_files : length (map file_of parts.slots.items) ≡ length parts.torrent.files
+  as_many_files = length-map parts.slots.items file_of ∙ count
+
+  is_new : IsNew dig parts.torrent is.trees.bases (map file_of parts.slots.items)
+  is_new =
+      let trees = torrent_trees is.trees.made is.roots.firsts.each (apart_alike is.trees.bases parts.trees.items (sym is.trees.names) is.apart) in
+      record { roots = trees.roots; each_tree = trees.each; count = as_many_files; each_file = new_file is.trees.bases is.trees.names }
 
   in_shape : IsShaped parts.torrent (state_of parts)
   in_shape = record {
     same = refl;
-    roots = is.trees.roots;
-    count = are_new.count;
+    roots = is.apart;
+    count = as_many_files;
     each = λ i file f listed at. (
-        let new = new_file i file f listed at in
+        let new = new_file parts.trees.items refl i file f listed at in
         record {
           blocks = ap (λ (states : List BlockState). length states) new.missing ∙ length-replicate (block_count file.length) Missing;
           has_tree = new.has_tree;
@@ -207,111 +229,93 @@ module _ {D H : Type 0} {dig : List ℕ → List ℕ} (parts : Parts D H) (is : 
   }
 
   missing : (i : ℕ) (file : File) (f : FileState) → slice_get parts.torrent.files i ≡ Some file → slice_get (state_of parts).files i ≡ Some f → f.states ≡ new_states file.length
-  missing i file f listed at = (new_file i file f listed at).missing
+  missing i file f listed at = (new_file parts.trees.items refl i file f listed at).missing
 
-  pub tied_anew : LiesInItsPiece → EachFits parts.torrent.files parts.trees.items parts.slots.items → IsTied parts
-  tied_anew lies fits = record {
-    joined = ap (λ (ps : List Peer). map (λ p. p.key) ps) is.books.peers ∙ sym (ap (λ (rs : List PeerRequests). map (λ r. r.peer) rs) is.books.unasked);
-    in_order = λ i j d lt within. absurd (omega (arith, within, ap (λ (ps : List Peer). length ps) is.books.peers));
-    room = is.books.room;
-    wanted = wanted_missing (state_of parts) parts.book.wanted parts.torrent.files is.books.wanted are_new.count missing;
-    ranged = known_ranged (state_of parts) parts.book.wanted parts.torrent.files is.books.wanted are_new.count missing;
-    count = count;
-    each = fits;
-    roots = is.roots;
-    known = record {
-      size = ap (λ (bs : List Bool). length bs) is.books.known ∙ length-replicate (total_pieces parts.torrent) false;
-      each = λ b k has among at.
-          absurd (none_among (total_pieces parts.torrent) (piece_of parts.torrent b)
-          (ap (λ (bs : List Bool). option_and_then (λ q. slice_get bs q) (piece_of parts.torrent b)) (sym is.books.known) ∙ among));
-    };
-    counted = record {
-      unmarked = sizes_unmarked lies (state_of parts) in_shape is.lawful.piece is.lawful.laid_out
-          (not_marked (state_of parts) parts.book.wanted parts.torrent.files is.books.wanted are_new.count missing) is.books.sizes;
-      waiting = is.books.waiting
-          ∙ sym (none_counted (state_of parts) (not_waiting (state_of parts) parts.book.wanted parts.torrent.files is.books.wanted are_new.count missing));
-    };
-  }
+  module _ (fits : EachFits parts.torrent.files parts.trees.items parts.slots.items) where
+    all_missing : AreMissing parts.slots.items
+    all_missing file slot store at has =
+        let fit = fits file slot at in
+        sym (ap (λ (o : Option (StoreView D)). option_map_or (λ store. store.states) o []) has) ∙ all_new file fit.file slot fit.listed at
+        ∙ ap new_states (sym (fit.some store has).long)
+
+    tied_anew : LiesInItsPiece → IsTied parts
+    tied_anew lies = record {
+      joined = ap (λ (ps : List Peer). map (λ p. p.key) ps) is.books.peers ∙ sym (ap (λ (rs : List PeerRequests). map (λ r. r.peer) rs) is.books.unasked);
+      in_order = λ i j d lt within. absurd (omega (arith, within, ap (λ (ps : List Peer). length ps) is.books.peers));
+      room = is.books.room;
+      wanted = wanted_missing (state_of parts) parts.book.wanted parts.torrent.files is.books.wanted as_many_files missing;
+      ranged = known_ranged (state_of parts) parts.book.wanted parts.torrent.files is.books.wanted as_many_files missing;
+      count = count;
+      each = fits;
+      roots = is.roots;
+      known = record {
+        size = ap (λ (bs : List Bool). length bs) is.books.known ∙ length-replicate (total_pieces parts.torrent) false;
+        each = λ b k has among at.
+            absurd (none_among (total_pieces parts.torrent) (piece_of parts.torrent b)
+            (ap (λ (bs : List Bool). option_and_then (λ q. slice_get bs q) (piece_of parts.torrent b)) (sym is.books.known) ∙ among));
+      };
+      counted = record {
+        unmarked = sizes_unmarked lies (state_of parts) in_shape is.lawful.piece is.lawful.laid_out
+            (not_marked (state_of parts) parts.book.wanted parts.torrent.files is.books.wanted as_many_files missing) is.books.sizes;
+        waiting = is.books.waiting
+            ∙ sym (none_counted (state_of parts) (not_waiting (state_of parts) parts.book.wanted parts.torrent.files is.books.wanted as_many_files missing));
+      };
+    }
+
+    pub have_begun : LiesInItsPiece → HaveBegun dig hints parts
+    have_begun lies = record {
+      bases = is.trees.bases;
+      is_new = is_new;
+      takes = is.trees.takes;
+      missing = all_missing;
+      alone = is.books.peers;
+      shaped = in_shape;
+      tied = tied_anew lies;
+    }
 
 -- ---- the parts, once devices were handed out
 
-module _ {D H : Type 0} {dig : List ℕ → List ℕ} (bare next : Parts D H) (is : AreBareParts dig bare) (new : AreNewSlots bare.torrent.files next.slots.items)
-    (trees : map (λ slot. slot.tree) next.slots.items ≡ map (λ slot. slot.tree) bare.slots.items) where
-  abbrev begun : Parts D H
-  begun = record bare { slots = next.slots }
-
-  new_parts : AreNewParts dig begun
-  new_parts = record { lawful = is.new.lawful; trees = is.new.trees; roots = is.new.roots; books = is.new.books }
-
-  as_many : length next.slots.items ≡ length bare.torrent.files
+module _ {D H : Type 0} {dig : List ℕ → List ℕ} {hints : List Hint} (parts : Parts D H) (is : AreNewParts dig hints parts) (bare : List (Slot D H))
+    (were : AreBareSlots parts.torrent.files (roots_and_lengths parts.torrent.files parts.roots.first_files.items) bare)
+    (new : AreNewSlots parts.torrent.files parts.slots.items) (trees : map (λ slot. slot.tree) parts.slots.items ≡ map (λ slot. slot.tree) bare) where
+  as_many : length parts.slots.items ≡ length parts.torrent.files
   as_many =
-      sym (length-map next.slots.items (λ (slot : Slot D H). slot.tree)) ∙ ap (λ (ts : List ℕ). length ts) trees
-      ∙ length-map bare.slots.items (λ (slot : Slot D H). slot.tree) ∙ is.slots.count
+      sym (length-map parts.slots.items (λ (slot : Slot D H). slot.tree)) ∙ ap (λ (ts : List ℕ). length ts) trees
+      ∙ length-map bare (λ (slot : Slot D H). slot.tree) ∙ were.count
 
-  slot_tree : (i : ℕ) (file : File) (slot : Slot D H) → slice_get bare.torrent.files i ≡ Some file → slice_get next.slots.items i ≡ Some slot
-      → HasTreeAt file (map root_and_length bare.trees.items) slot.tree
+  slot_tree : (i : ℕ) (file : File) (slot : Slot D H) → slice_get parts.torrent.files i ≡ Some file → slice_get parts.slots.items i ≡ Some slot
+      → HasTreeAt file (map root_and_length parts.trees.items) slot.tree
   slot_tree i file slot listed at some =
-      let old = get_map (λ (slot : Slot D H). slot.tree) bare.slots.items i
-      (ap (λ (ts : List ℕ). slice_get ts i) (sym trees) ∙ get_mapped (λ (slot : Slot D H). slot.tree) next.slots.items i at) in
-      ap (λ t. slice_get (map root_and_length bare.trees.items) t) (sym old.2) ∙ (is.slots.each i file old.0 listed old.1).has_tree some
+      let old = get_map (λ (slot : Slot D H). slot.tree) bare i
+      (ap (λ (ts : List ℕ). slice_get ts i) (sym trees) ∙ get_mapped (λ (slot : Slot D H). slot.tree) parts.slots.items i at) in
+      ap (λ t. slice_get (map root_and_length parts.trees.items) t) (sym old.2)
+      ∙ ap (λ ps. slice_get ps old.0.tree) (is.trees.names ∙ names_of_trees is.trees.made)
+      ∙ (were.each i file old.0 listed old.1).has_tree some
 
-  slot_states : (i : ℕ) (file : File) (slot : Slot D H) → slice_get bare.torrent.files i ≡ Some file → slice_get next.slots.items i ≡ Some slot
+  slot_states : (i : ℕ) (file : File) (slot : Slot D H) → slice_get parts.torrent.files i ≡ Some file → slice_get parts.slots.items i ≡ Some slot
       → (file_of slot).states ≡ new_states file.length
   slot_states i file slot listed at = states_new (new i file slot listed at)
 
-  begins : Starts dig bare.torrent (state_of begun)
-  begins = record {
-    is_new = are_new begun new_parts as_many slot_states slot_tree;
-    is = ap (λ (ps : List Peer). record (state_of begun) { peers = map (peer_of bare.book) ps }) is.new.books.peers
-        ∙ ap (λ n. record (state_of begun) { peers = []; next_key = n + 1 }) is.first_key ∙ ap (λ n. record (state_of begun) { peers = []; next_key = 1; turn = n }) is.first_turn
-        ∙ ap (λ (log : Option (OpenLog D)). record (state_of begun) { peers = []; next_key = 1; turn = 0; logged = is_some log; pending = pending_of log; hints = hints_of log })
-        is.no_log;
-  }
-
-  are_devices : {given : List D} → devices_in next.slots.items ≡ given → AreDevicesOf bare.torrent.files given (disks_of begun)
-  are_devices in_order = record {
-    count = length-map next.slots.items disk_of ∙ as_many;
+  pub first_devices : {given : List D} → devices_in parts.slots.items ≡ given → AreDevicesOf parts.torrent.files given (disks_of parts)
+  first_devices in_order = record {
+    count = length-map parts.slots.items disk_of ∙ as_many;
     empty = λ i file listed. (
-        let slot = get_some next.slots.items i (omega (arith, as_many, some_below bare.torrent.files i listed)) in
-        let there = get_mapped disk_of next.slots.items i slot.1 in
+        let slot = get_some parts.slots.items i (omega (arith, as_many, some_below parts.torrent.files i listed)) in
+        let there = get_mapped disk_of parts.slots.items i slot.1 in
         let both = has_device (new i file slot.0 listed slot.1) in
         (λ e. both.0 (sym there ∙ e), λ e. there ∙ both.1 e)
         );
     in_order = in_order;
   }
 
-  tied : LiesInItsPiece → IsTied begun
-  tied lies = tied_anew begun new_parts as_many slot_states slot_tree lies (λ i slot at. (
-      let file = get_some bare.torrent.files i (omega (arith, as_many, some_below next.slots.items i at)) in
+  pub first_begun : LiesInItsPiece → HaveBegun dig hints parts
+  first_begun lies = have_begun parts is as_many slot_states slot_tree (λ i slot at. (
+      let file = get_some parts.torrent.files i (omega (arith, as_many, some_below parts.slots.items i at)) in
       let own = new i file.0 slot file.1 at in
       record { file = file.0; listed = file.1; empty = empty_without own; some = fits_tree own (slot_tree i file.0 slot file.1 at) }
-      ))
+      )) lies
 
--- ---- the same, where the slots were lent and made
-
-pub have_begun : {D H : Type 0} {dig : List ℕ → List ℕ} (bare : Parts D H) (lent made : List (Slot D H)) {files : List File} {given : List D}
-    → LiesInItsPiece → AreBareParts dig bare → files ≡ bare.torrent.files → lent ≡ bare.slots.items → AreNewSlots files made
-    → map (λ slot. slot.tree) made ≡ map (λ slot. slot.tree) lent → devices_in made ≡ given
-    → HaveBegun dig given (record bare { slots = with_items bare.slots made })
-have_begun {D} {H} {dig} bare lent made {files} {given} lies is listed lends new trees in_order =
-    let Slots : Type 0 = List (Slot D H) in
-    let next : Parts D H = record bare { slots = with_items bare.slots made } in
-    let alike : map (λ slot. slot.tree) made ≡ map (λ slot. slot.tree) bare.slots.items = trees ∙ ap (λ (slots : Slots). map (λ slot. slot.tree) slots) lends in
-    let size : length made ≡ length bare.slots.items = sym (length-map made (λ (slot : Slot D H). slot.tree)) ∙ ap (λ (ts : List ℕ). length ts) alike
-    ∙ length-map bare.slots.items (λ (slot : Slot D H). slot.tree) in
-    let are = with_items_is bare.slots made (size ∙ sym bare.slots.ok.0) in
-    let own = subst (λ (slots : Slots). AreNewSlots bare.torrent.files slots) (sym are) (subst (λ (files : List File). AreNewSlots files made) listed new) in
-    let own_trees = ap (λ (slots : Slots). map (λ slot. slot.tree) slots) are ∙ alike in
-    record {
-      starts = begins bare next is own own_trees;
-      devices = are_devices bare next is own own_trees (ap (λ (slots : Slots). devices_in slots) are ∙ in_order);
-      tied = tied bare next is own own_trees lies;
-    }
-
--- what follows of three clauses on success
-pub ok_follows : {X E P Q R S : Type 0} (result : Result X E) → (P → Q → R → S) → OnOk result P → OnOk result Q → OnOk result R → OnOk result S
-ok_follows (Ok x) follows p q r = follows p q r
-ok_follows (Err e) follows p q r = tt
+-- ---- a book that wants all blocks of files
 
 pub counts_wanted : (files : List FileEntry) → map (λ n. replicate n true) (map (λ file. block_count file.length) files)
     ≡ map (λ file. replicate (block_count file.length) true) (map entry_of files)

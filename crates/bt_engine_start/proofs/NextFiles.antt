@@ -10,7 +10,7 @@ use Rattle.std.proofs.lemmas.Slice.Eq.{bytes_eq-Decides}
 use Rattle.bt_machine.proofs.Lists.{some_is, some_below, set_same, set_other}
 use Rattle.bt_engine_state.proofs.Lists.{get_at}
 use Rattle.bt_engine_state.specs.Roots.{Numbers, number_of, IsFirstFrom, IsOfRoot, AreNextFiles}
-use Rattle.bt_engine_start.specs.TreeSteps.{AreFirstsFrom}
+use Rattle.bt_engine_start.specs.RootsSteps.{AreFirstsFrom}
 
 -- one number more is looked at, of which it is not so
 first_back : {P : ℕ → Type 0} {count from first : ℕ} → (P from → ⊥) → IsFirstFrom P count (from + 1) first → IsFirstFrom P count from first

@@ -2,7 +2,7 @@
 use Rattle.bt_machine.proofs.Base.{[], ◌≡◌, ◌≢◌, ℕ, suc, ◌+◌, ◌<◌, inl, inr, List, ◌∷◌, ◌++◌, length, get_or, Option, Some, None, refl, sym, ap, ◌∙◌, subst, arith, slice_get, AllPairs, All, All-get_or, cases_lt, map, length-map, get_or-map, ◌≤◌, File, Metainfo, IsLawful, IsLawfulFile, Facts}
 use Rattle.std.specs.Ordering.{nat_cmp}
 use Rattle.std.specs.Cmp.Lexicographic.{slice_cmp}
-use Rattle.std.specs.BTreeMap.{Updates, IsEmpty}
+use Rattle.std.specs.BTreeMap.{Updates}
 use Rattle.std.proofs.lemmas.Option.{get_or_from_slice_get}
 use Rattle.std.proofs.lemmas.List.{map-append}
 use Rattle.std.proofs.lemmas.Simd.{map-map}
@@ -20,10 +20,10 @@ use Rattle.bt_engine_state.specs.declared.slot.Slot.{Slot}
 use Rattle.bt_engine_state.proofs.BlockChanges.{pairs_of_map}
 use Rattle.bt_engine_state.proofs.Lists.{get_at, get_read, get_mapped}
 use Rattle.bt_engine_state.specs.Roots.{Numbers, number_of, AreNumbered}
-use Rattle.bt_engine_start.specs.TreeSteps.{roots_of, roots_and_lengths, AreByRoot, Extends, HasTreeAt, AreTorrentTrees, IsBareSlot, AreBareSlotsSoFar, AreBareSlots}
-use Rattle.bt_engine_start.specs.Trees.{AreTreesSoFar, AreTreesOf}
-use Rattle.bt_engine_start.proofs.Numbers.{none_numbered, number_kept, number_added}
-use Rattle.bt_engine_start.proofs.Pushes.{nothing_at, get_cases}
+use Rattle.bt_engine_start.specs.RootsSteps.{roots_of, roots_and_lengths, AreByRoot, Extends, HasTreeAt, AreTorrentTrees, IsBareSlot, AreBareSlotsSoFar, AreBareSlots}
+use Rattle.bt_engine_start.specs.TreesSteps.{AreTreesSoFar, AreTreesOf}
+use Rattle.bt_engine_start.proofs.Numbers.{number_kept, number_added}
+use Rattle.bt_engine_start.proofs.Pushes.{get_cases}
 
 pub tree_is : {dig : List ℕ → List ℕ} {torrent : Metainfo} {file : File} {k : Facts} → IsTreeFrom dig torrent file k
     → (k.root ≡ file.root) × (k.file_length ≡ file.length)
@@ -144,14 +144,6 @@ root_added {files} {from} {firsts} old new {file} more by listed some size none 
     let own = subst (λ n. Updates (slice_cmp nat_cmp) old new file.root (Some n)) (size ∙ sym (length-map firsts (λ number. (root_and_length_of files number).0))) update in
     subst (λ (ns : List ℕ). AreByRoot files (from + 1) ns new) (sym shape) (root_pushed old new by listed some none own)
 
--- at first there is none
-pub none_by_root : {files : List File} {firsts : List ℕ} {numbers : Numbers} → firsts ≡ [] → IsEmpty numbers → AreByRoot files 0 firsts numbers
-none_by_root {files} {firsts} {numbers} none empty = record {
-  each = λ t n at. absurd (nothing_at t (sym (ap (λ (ns : List ℕ). slice_get ns t) none) ∙ at));
-  numbered = subst (λ (ns : List ℕ). AreNumbered (roots_of files ns) numbers) (sym none) (none_numbered numbers empty);
-  before = λ j file lt at some. absurd (omega arith);
-}
-
 pub extends_mapped : {X Y : Type 0} (f : X → Y) (old new : List X) → Extends old new → Extends (map f old) (map f new)
 extends_mapped f old new grown t y at =
     let x = get_map f old t at in
@@ -235,6 +227,17 @@ module _ {files : List File} (entries : List FileEntry) (numbers : List ℕ) (sa
               )
         ]
 
+-- by the names of trees, their roots have the numbers of those of the first files
+module _ (files : List File) (firsts : List ℕ) (numbers : Numbers) {names : List (List ℕ × ℕ)} (same : names ≡ roots_and_lengths files firsts) where
+  roots_named : map (λ p. p.0) names ≡ roots_of files firsts
+  roots_named = ap (map (λ p. p.0)) same ∙ map-map (λ p. p.0) (root_and_length_of files) firsts
+
+  pub numbered_names : AreNumbered (roots_of files firsts) numbers → AreNumbered (map (λ p. p.0) names) numbers
+  numbered_names are = subst (λ (roots : List (List ℕ)). AreNumbered roots numbers) (sym roots_named) are
+
+  pub numbered_roots : AreNumbered (map (λ p. p.0) names) numbers → AreNumbered (roots_of files firsts) numbers
+  numbered_roots are = subst (λ (roots : List (List ℕ)). AreNumbered roots numbers) roots_named are
+
 module _ {dig : List ℕ → List ℕ} {torrent : Metainfo} {firsts : List ℕ} {trees : List Facts} (are : AreTreesOf dig torrent firsts trees) where
   pub names_of_trees : map root_and_length trees ≡ roots_and_lengths torrent.files firsts
   names_of_trees = names_agree torrent.files trees firsts are.count (λ t n k there at. (
@@ -242,11 +245,6 @@ module _ {dig : List ℕ → List ℕ} {torrent : Metainfo} {firsts : List ℕ} 
       let is = tree_is of.says in
       ap (λ root. (root, k.file_length)) is.0 ∙ ap (λ m. (of.file.root, m)) is.1 ∙ sym (listed_root torrent.files n of.listed)
       ))
-
-  pub numbered_trees : (numbers : Numbers) → AreNumbered (roots_of torrent.files firsts) numbers → AreNumbered (map (λ p. p.0) (map root_and_length trees)) numbers
-  numbered_trees numbers are_numbered =
-      subst (λ (roots : List (List ℕ)). AreNumbered roots numbers)
-      (sym (ap (map (λ p. p.0)) names_of_trees ∙ map-map (λ p. p.0) (root_and_length_of torrent.files) firsts)) are_numbered
 
   pub roots_of_trees : map (λ k. k.root) trees ≡ roots_of torrent.files firsts
   roots_of_trees =

@@ -14,7 +14,7 @@ use Rattle.bt_machine.specs.State.{EngineState, FileState}
 use Rattle.bt_machine.specs.Blocks.{block_id, states_of, is_marked_in, is_in_piece, all_blocks}
 use Rattle.bt_machine.specs.Shape.{IsShaped}
 use Rattle.bt_engine_state.specs.Ties.{AreUnmarked}
-use Rattle.bt_engine_start.specs.Books.{ArePieceSizes}
+use Rattle.bt_engine_start.specs.BooksSteps.{ArePieceSizes}
 
 not_true : (t : Bool) → (t ≡ true → ⊥) → t ≡ false
 not_true true wrong = absurd (wrong refl)

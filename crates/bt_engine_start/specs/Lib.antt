@@ -1,8 +1,21 @@
 pub mod Starting
-pub mod Trees
-pub mod Books
+pub mod Restarting
+pub mod Runs
+pub mod Taking
 -- what only private functions cite
-pub mod TreeSteps
-pub mod DeviceSteps
+pub mod StartingSteps
 pub mod BeginningSteps
-pub mod WithLogSteps
+pub mod RootsSteps
+pub mod TreesSteps
+pub mod BooksSteps
+pub mod MakingSteps
+pub mod DeviceSteps
+pub mod RestartingSteps
+pub mod AnewSteps
+pub mod TakingSteps
+pub mod RecallingSteps
+pub mod MarksSteps
+pub mod RestoringSteps
+pub mod ReadsSteps
+pub mod FollowingSteps
+pub mod RecoverySteps

@@ -1,7 +1,7 @@
 //! What an engine has of its blocks and peers when it begins: a request book that wants all blocks, a count
 //! of unmarked blocks for each piece, none that waits, no piece whose leaves are known, and no peer.
 ghost use Rattle.std.specs.Prelude.{IfOk};
-ghost use Rattle.bt_engine_start.specs.Books.{AreNewBooks};
+ghost use Rattle.bt_engine_start.specs.BooksSteps.{AreNewBooks};
 
 use crate::block_counts::block_counts;
 use crate::new_book::new_book;
@@ -13,7 +13,7 @@ use std::alloc::{AllocError, Global};
 
 /// What an engine keeps of its blocks and peers, beside its trees and files.
 #[derive(Drop)]
-pub struct Books {
+pub(crate) struct Books {
     /// How many blocks are not marked, and how many wait.
     pub counts: Counts,
     /// Pieces of whose blocks each leaf is known.
@@ -24,7 +24,7 @@ pub struct Books {
 
 /// The books of a torrent of which all blocks are missing, and of which no leaf need be known. No peer is
 /// connected. Errors: out of memory.
-pub fn new_books(alloc: Global, torrent: &Torrent) -> Result<Books, AllocError>
+pub(crate) fn new_books(alloc: Global, torrent: &Torrent) -> Result<Books, AllocError>
     ensures { IfOk result (λ books. AreNewBooks torrent.now books) }
 {
     let blocks = block_counts(alloc, torrent.files())?;

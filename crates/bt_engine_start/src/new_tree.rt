@@ -8,7 +8,7 @@ ghost use Rattle.bt_machine.specs.Start.{IsTreeFrom};
 
 use bt_meta::{FileEntry, Torrent, layers_are_of_trees};
 use bt_sparse::SparseTree;
-use bt_tree::{Geometry, LayerError, NodeHash, piece_layer};
+use bt_tree::{Geometry, NodeHash, piece_layer};
 use std::alloc::{AllocError, Global};
 
 /// The tree of a file of the torrent that has a block: the layer that the torrent has of it, else the root
@@ -25,16 +25,7 @@ pub(crate) fn new_tree<H: NodeHash>(
     requires length { geometry ≡ file.now.length }
     ensures { IfOk result (IsTreeFrom H.digest torrent.now (file_of file.now)) }
 {
-    if file.layer.is_empty() {
-        return SparseTree::new(alloc, hash, geometry, file.root);
-    }
     layers_are_of_trees();
     let layer = piece_layer(torrent.piece_length());
-    match SparseTree::with_layer(alloc, hash, geometry, file.root, layer, &file.layer) {
-        Ok(tree) => Ok(tree),
-        Err(LayerError::OutOfMemory) => Err(AllocError),
-        // The layer of a lawful file is a layer of its tree.
-        Err(LayerError::Size) => unreachable!(),
-        Err(LayerError::Differs) => unreachable!(),
-    }
+    SparseTree::from_torrent(alloc, hash, geometry, file.root, layer, &file.layer)
 }

@@ -4,7 +4,7 @@ ghost use Rattle.std.specs.Prelude.{◌≡◌, ◌+◌, ◌<◌, ◌≤◌, leng
 ghost use Rattle.bt_meta.specs.Files.{File, file_of};
 ghost use Rattle.bt_meta.specs.Limits.{max_file_count};
 ghost use Rattle.bt_engine_state.specs.Roots.{AreNextFiles, IsFirstFrom, IsOfRoot};
-ghost use Rattle.bt_engine_start.specs.TreeSteps.{AreFirstsFrom};
+ghost use Rattle.bt_engine_start.specs.RootsSteps.{AreFirstsFrom};
 
 use bt_meta::FileEntry;
 use bt_tree::Hash32;

@@ -1,6 +1,6 @@
 //! How many blocks each piece has; at the start that is its count of unmarked blocks.
 ghost use Rattle.std.specs.Prelude.{IfOk};
-ghost use Rattle.bt_engine_start.specs.Books.{ArePieceSizes};
+ghost use Rattle.bt_engine_start.specs.BooksSteps.{ArePieceSizes};
 
 use bt_meta::Torrent;
 use std::alloc::{AllocError, Global};

@@ -7,7 +7,7 @@ ghost use Rattle.bt_meta.specs.Limits.{max_file_count};
 ghost use Rattle.bt_meta.specs.Torrent.{HaveOneLengthPerRoot};
 ghost use Rattle.bt_engine_state.specs.Roots.{AreNumbered, AreNextFiles};
 ghost use Rattle.bt_engine_state.specs.Ties.{EachIsFirst};
-ghost use Rattle.bt_engine_start.specs.TreeSteps.{AreByRoot, Extends, HasTreeAt, AreBareSlots, roots_and_lengths, roots_of};
+ghost use Rattle.bt_engine_start.specs.RootsSteps.{AreByRoot, Extends, HasTreeAt, AreBareSlots, roots_and_lengths, roots_of};
 
 use crate::next_files::next_files;
 use bt_disk::Disk;

@@ -3,7 +3,7 @@
 ghost use Rattle.std.specs.Prelude.{◌≡◌, IfOk, length};
 ghost use Rattle.sha2.specs.Sha256.{sha256};
 ghost use Rattle.bt_engine_state.specs.Ties.{EachIsFirst};
-ghost use Rattle.bt_engine_start.specs.Trees.{AreTreesOf};
+ghost use Rattle.bt_engine_start.specs.TreesSteps.{AreTreesOf};
 
 use crate::new_tree::new_tree;
 use bt_meta::Torrent;
@@ -13,7 +13,7 @@ use std::alloc::{AllocError, Global};
 
 /// The trees that a torrent has of these files, each of which is the first of its root that has a byte.
 /// Errors: out of memory.
-pub fn new_trees<H: NodeHash>(
+pub(crate) fn new_trees<H: NodeHash>(
     alloc: Global,
     hash: H,
     torrent: &Torrent,

@@ -11,7 +11,7 @@ use Rattle.bt_meta.specs.declared.piece_blocks.BlockRun.{BlockRun}
 use Rattle.bt_meta.specs.declared.piece_blocks.PieceRange.{PieceRange}
 use Rattle.bt_meta.proofs.PieceBlocks.{blocks_per_piece, HasPieceOf, quotient, lies_in_piece}
 use Rattle.bt_book.specs.Blocks.{Blocks, IsBefore, IsInRange, member, with_block}
-use Rattle.bt_book.specs.Book.{BookState, IsBook, asked_of, peers_of, pair_count}
+use Rattle.bt_book.specs.Book.{BookState, IsBook, asked_of, peers_of}
 use Rattle.bt_book.proofs.BlockSets.{member_with, shape_with}
 use Rattle.bt_book.proofs.Listed.{counted_blocks, asked_le_pairs}
 use Rattle.bt_book.proofs.Once.{filter_none}
@@ -20,9 +20,8 @@ use Rattle.bt_store.specs.BlockStates.{is_marked}
 use Rattle.bt_machine.specs.State.{EngineState, PeerState, FileState}
 use Rattle.bt_machine.specs.Blocks.{state_at, states_of, piece_of, is_in_piece, is_marked_in, all_blocks, IsAsked}
 use Rattle.bt_machine.specs.Changes.{DifferAt}
-use Rattle.bt_machine.specs.Orderly.{IsOrderly}
 use Rattle.bt_machine.specs.Shape.{IsShaped}
-use Rattle.bt_machine.proofs.Lists.{here, later, contains_none, contains_cases, contains_filter, contains_map, map_contains, some_below, some_is, get_some, and_then_some}
+use Rattle.bt_machine.proofs.Lists.{here, later, contains_none, contains_cases, contains_filter, map_contains, some_below, some_is, get_some, and_then_some}
 use Rattle.bt_machine.proofs.Pairs.{Pairs, to_pairs, from_pairs, contains_some, pairs_map}
 use Rattle.bt_engine_state.specs.BlockChange.{AreFollowed, OneChanged, HasChanged, asked_after}
 use Rattle.bt_engine_state.specs.BlockChangeSteps.{mark_count, wait_count}
@@ -415,14 +414,3 @@ module _ {D H : Type 0} (old : Parts D H) (book : BookState) (counts : Counts) w
     -- whoever is asked for the block, the peers are told of so
     pub state_told : state_of (record old { book = book; counts = counts }) ≡ record (state_of old) { peers = map (asked_then b was now) (state_of old).peers }
     state_told = ap {A = List PeerState} (λ peers. record (state_of old) { peers = peers }) (told_peers old.book book b was now old.peers.items asked)
-
--- a block that is in no pair is asked of nobody
-pub free_unasked : {D H : Type 0} (parts : Parts D H) (b : BlockId) → pair_count parts.book b ≡ 0 → ¬ IsAsked (state_of parts) b
-free_unasked parts b free asked =
-    let p = contains_map (peer_of parts.book) parts.peers.items asked.1 in
-    let among : Contains (asked_of parts.book p.0.key) b = subst (λ (q : PeerState). Contains q.asked b) (sym p.2) asked.2 in
-    absurd (omega (arith, free, asked_le_pairs p.0.key b parts.book.peers, (counted_blocks b (asked_of parts.book p.0.key)).1 among))
-
--- nor is a block that is not missing
-pub known_unasked : (s : EngineState) (b : BlockId) {x : BlockState} → IsOrderly s → state_at s b ≡ Some x → x ≢ Missing → ¬ IsAsked s b
-known_unasked s b orderly at known asked = known (some_is (sym at ∙ (orderly.each asked.0 asked.1).missing b asked.2))

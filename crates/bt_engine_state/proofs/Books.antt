@@ -1,20 +1,9 @@
 -- Which peers a book knows.
-use Rattle.bt_machine.proofs.Base.{[], ◌≡◌, ◌+◌, not, List, ◌∷◌, map, filter, refl, sym, ap, ◌∙◌, PeerKey, BlockId, cond, ◌==◌}
+use Rattle.bt_machine.proofs.Base.{[], ◌≡◌, ◌+◌, not, List, ◌∷◌, map, filter, refl, sym, ap, ◌∙◌, PeerKey, cond, ◌==◌}
 use Rattle.std.specs.List.{count_by}
-use Rattle.bt_book.specs.Book.{PeerRequests, is_of, change_of, without_block_of}
+use Rattle.bt_book.specs.Book.{PeerRequests, is_of}
 use Rattle.bt_book.proofs.Once.{count_cons}
-use Rattle.std.proofs.Common.{arith}
 use Rattle.bt_engine_state.proofs.Lists.{filter_mapped}
-
-pub keys_changed : (key : PeerKey) (change : List BlockId → List BlockId) (peers : List PeerRequests)
-    → map (λ r. r.peer) (map (change_of key change) peers) ≡ map (λ r. r.peer) peers
-keys_changed key change [] = refl
-keys_changed key change (r ∷ rs) = grind (arith, keys_changed key change rs)
-
-pub keys_forgotten : (b : BlockId) (peers : List PeerRequests)
-    → map (λ r. r.peer) (map (without_block_of b) peers) ≡ map (λ r. r.peer) peers
-keys_forgotten b [] = refl
-keys_forgotten b (r ∷ rs) = ap (λ ks. r.peer ∷ ks) (keys_forgotten b rs)
 
 -- who has joined is read off the keys
 pub counted_keys : (key : PeerKey) (peers : List PeerRequests)

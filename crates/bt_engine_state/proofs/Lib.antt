@@ -26,3 +26,5 @@ pub mod BlockChanges
 pub mod SlotChanges
 -- a file that is left out
 pub mod Recounts
+pub mod MarkJoins
+pub mod Calls

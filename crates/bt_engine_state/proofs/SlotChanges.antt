@@ -76,9 +76,6 @@ set_again (z ∷ xs) (suc i) x y = ap (λ ys. z ∷ ys) (set_again xs i x y)
 abbrev pub states_up_to : List BlockState → List BlockState → ℕ → List BlockState
 states_up_to old new k = take k new ++ drop k old
 
-pub none_new : (old new : List BlockState) → states_up_to old new 0 ≡ old
-none_new old new = refl
-
 pub all_new : (old new : List BlockState) → length new ≡ length old → states_up_to old new (length old) ≡ new
 all_new [] [] size = refl
 all_new [] (y ∷ new) size = absurd (omega arith)

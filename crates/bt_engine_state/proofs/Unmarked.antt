@@ -175,18 +175,6 @@ module _ {s t : EngineState} {b : BlockId} (d : DifferAt (b ∷ []) s t) (inside
         | inr off ↦ inr (λ e. off (ap (λ z. z.file) e))
       ]
 
--- where no block has become marked, or is no more, all counts stay
-pub counts_stay : {blocks : List BlockId} {s t : EngineState} → DifferAt blocks s t → ((c : BlockId) → is_marked_in t c ≡ is_marked_in s c)
-    → (counts : List ℕ) → AreUnmarked s counts → AreUnmarked t counts
-counts_stay {blocks} {s} {t} d same counts are = record {
-  size = are.size ∙ ap total_pieces (sym d.same_torrent);
-  each = λ piece below. are.each piece (subst (λ (m : Metainfo). piece < total_pieces m) d.same_torrent below) ∙ ap (λ n. Some n) (
-      count_filtered (is_in_piece s.torrent piece) (λ c. not (is_marked_in s c)) (all_blocks s)
-      ∙ count_agree (λ c. is_in_piece s.torrent piece c && not (is_marked_in s c)) (λ c. is_in_piece s.torrent piece c && not (is_marked_in t c)) (all_blocks s)
-      (λ c among. ap (λ m. is_in_piece s.torrent piece c && not m) (sym (same c)))
-      ∙ sym (counts_alike d piece));
-}
-
 -- one count changed, with which the engine's are right again
 pub count_set : {s t : EngineState} {b : BlockId} (d : DifferAt (b ∷ []) s t) (inside : b.block < length (states_of s b.file)) (piece n : ℕ) (counts : List ℕ)
     → AreUnmarked s counts → piece_of s.torrent b ≡ Some piece → piece < total_pieces s.torrent → unmarked_in t piece ≡ n → AreUnmarked t (slice_set counts piece n)

@@ -9,3 +9,5 @@ pub mod Connection
 pub mod BlockChange
 pub mod Recount
 pub mod BlockChangeSteps
+pub mod Pending
+pub mod Writing

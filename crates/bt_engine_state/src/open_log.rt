@@ -1,6 +1,6 @@
 //! An engine's log, and what the next flush is to write to it.
+use crate::pending::Pending;
 use bt_disk::Disk;
-use bt_engine_pending::Pending;
 use bt_resume::ResumeLog;
 
 /// A log that an engine has.

@@ -3,7 +3,7 @@ ghost use Rattle.std.specs.Prelude.{[], ◌∷◌, ◌≡◌, IfOk, IfSome};
 ghost use Rattle.bt_engine_state.specs.Roots.{AreNumbered};
 
 use bt_disk::MemoryDisk;
-use bt_engine_recall::{MarkRun, recorded_runs, take_proofs};
+use bt_engine_start::{MarkRun, recorded_runs, take_proofs};
 use bt_engine_state::Roots;
 use bt_resume::ResumeLog;
 use bt_rows::{RowError, Words, whole_answer};

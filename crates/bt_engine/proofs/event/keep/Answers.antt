@@ -1,11 +1,9 @@
-use Rattle.bt_machine.specs.Blocks.{new_complete_files}
-use Rattle.bt_machine.specs.declared.answer.Note.TheVariants.{Complete}
-use Rattle.std.proofs.Common.{◌≡◌, ◌<◌, ◌++◌, List, Option, map, option_map, length, sym, ap, ◌∙◌, subst, arith}
+use Rattle.std.proofs.Common.{◌≡◌, ◌<◌, ◌++◌, List, Option, option_map, length, refl, sym, ap, ◌∙◌, subst, arith}
 use Rattle.std.specs.Option.{option_to_list}
 use Rattle.std.specs.Vec.{vec_len}
 use Rattle.bt_machine.specs.declared.answer.Note.{Note}
 use Rattle.bt_machine.specs.FollowUp.{FollowsUp}
-use Rattle.bt_machine.specs.Output.{Sent, haves}
+use Rattle.bt_machine.specs.Output.{Sent}
 use Rattle.bt_machine.specs.State.{PeerState, EngineState, Hint}
 use Rattle.bt_machine.proofs.Lists.{some_is}
 use Rattle.bt_engine_state.specs.Parts.{state_of, disks_of, peer_of}
@@ -14,34 +12,31 @@ use Rattle.bt_engine_state.proofs.Lists.{get_read, get_mapped}
 use Rattle.bt_engine_state.proofs.Ties.{tied_logged}
 use Rattle.bt_engine_state.specs.declared.open_log.OpenLog.{OpenLog}
 use Rattle.bt_engine_state.specs.declared.parts.Parts.{Parts}
-use Rattle.bt_engine.specs.EventSteps.{sent_by, notes_in}
-use Rattle.bt_engine.specs.NewsSteps.{TellMarks}
+use Rattle.bt_engine_messages.specs.Outcome.{sent_by, notes_in}
+use Rattle.bt_engine.specs.NewsSteps.{haves_by, complete_by}
 use Rattle.bt_engine.specs.PendingSteps.{marks_in, with_hints, AreInside}
-use Rattle.bt_engine.proofs.Events.{output_is, few_replies}
-use Rattle.bt_engine.proofs.ToldMarks.{told_marks, are_inside, same_marks_in, few_hints, inside_alike, shape_recorded}
+use Rattle.bt_engine.proofs.Events.{few_replies}
+use Rattle.bt_engine.proofs.ToldMarks.{are_inside, same_marks_in, few_hints, inside_alike, shape_recorded}
 use Rattle.bt_engine.proofs.event.keep.Goals as goal
 
 pub record_hints-requires-clause-room : goal.record_hints-requires-clause-room
 record_hints-requires-clause-room g c = λ opened is.
     let reply = c.args.reply in
     let room = c.requires.room in
-    let told = c.requires.told in
     let noted : c.put_reply.new.notes.items ≡ notes_in reply = c.put_reply.ensures.noted ∙ ap (λ (ns : List Note). ns ++ notes_in reply) room.2.nothing_noted in
-    let all = c.note_complete_files.ensures.noted told.0 (subst (λ (ns : List Note). TellMarks told.0 (state_of c.args.parts.now) ns) (sym noted) told.1)
-    ∙ ap (λ (ns : List Note). ns ++ map (λ file. Complete file) (new_complete_files told.0 (state_of c.args.parts.now))) noted in
-    let marks = ap marks_in (c.deref.ensures.value ∙ all) ∙ same_marks_in (notes_in reply) (new_complete_files told.0 (state_of c.args.parts.now)) in
+    let all = c.note_complete_files.ensures.noted ∙ ap (λ (ns : List Note). ns ++ complete_by (state_of c.args.parts.now) ns) noted in
+    let marks = ap marks_in (c.deref.ensures.value ∙ all) ∙ same_marks_in (state_of c.args.parts.now) (notes_in reply) in
     let size = ap (λ (hints : List Hint). length (option_to_list c.args.proof ++ hints)) marks in
     omega (arith, size, few_hints c.args.proof (notes_in reply), few_replies reply, room.1, room.3 opened is)
 
 pub record_hints-requires-clause-inside : goal.record_hints-requires-clause-inside
 record_hints-requires-clause-inside g c =
     let reply = c.args.reply in
-    let told = c.requires.told in
-    let noted : c.put_reply.new.notes.items ≡ notes_in reply = c.put_reply.ensures.noted ∙ ap (λ (ns : List Note). ns ++ notes_in reply) c.requires.room.2.nothing_noted in
-    let all = c.note_complete_files.ensures.noted told.0 (subst (λ (ns : List Note). TellMarks told.0 (state_of c.args.parts.now) ns) (sym noted) told.1)
-    ∙ ap (λ (ns : List Note). ns ++ map (λ file. Complete file) (new_complete_files told.0 (state_of c.args.parts.now))) noted in
+    let room = c.requires.room in
+    let noted : c.put_reply.new.notes.items ≡ notes_in reply = c.put_reply.ensures.noted ∙ ap (λ (ns : List Note). ns ++ notes_in reply) room.2.nothing_noted in
+    let all = c.note_complete_files.ensures.noted ∙ ap (λ (ns : List Note). ns ++ complete_by (state_of c.args.parts.now) ns) noted in
     subst (λ (ns : List Note). AreInside ns) (sym (c.deref.ensures.value ∙ all))
-    (inside_alike (notes_in reply) (new_complete_files told.0 (state_of c.args.parts.now)) (are_inside told.1 c.requires.peer.shaped c.keeps_laws.ensures.each))
+    (inside_alike (state_of c.args.parts.now) (notes_in reply) (are_inside c.requires.told.1 c.requires.peer.shaped c.keeps_laws.ensures.each))
 
 pub follow_up-requires-clause-peer : goal.follow_up-requires-clause-peer
 follow_up-requires-clause-peer g c =
@@ -70,24 +65,22 @@ returns-clause-follows g c =
     let parts = c.args.parts.now in
     let reply = c.args.reply in
     let follows = c.follow_up.ensures.follows in
-    let room = c.requires.room.2 in
-    let noted : c.put_reply.new.notes.items ≡ notes_in reply = c.put_reply.ensures.noted ∙ ap (λ (ns : List Note). ns ++ notes_in reply) room.nothing_noted in (
-      follows.sent,
-      (λ old marks.
-          let again = subst (λ (ns : List Note). TellMarks old (state_of parts) ns) (sym noted) marks in
-          let all = c.note_complete_files.ensures.noted old again ∙ ap (λ (ns : List Note). ns ++ map (λ file. Complete file) (new_complete_files old (state_of parts))) noted in
-          let told = ap marks_in (c.deref.ensures.value ∙ all) ∙ same_marks_in (notes_in reply) (new_complete_files old (state_of parts)) ∙ told_marks marks in
-          let is = c.record_hints.ensures.state ∙ ap (λ (hints : List Hint). with_hints (state_of parts) (option_to_list c.args.proof ++ hints)) told in
-          subst (λ (s : EngineState). FollowsUp g.H.NodeHash.digest s c.args.index follows.sent (state_of c.follow_up.new.parts)) is follows.follows),
-      λ old peer marks here.
+    let room = c.requires.room in
+    let noted : c.put_reply.new.notes.items ≡ notes_in reply = c.put_reply.ensures.noted ∙ ap (λ (ns : List Note). ns ++ notes_in reply) room.2.nothing_noted in
+    let all = c.note_complete_files.ensures.noted ∙ ap (λ (ns : List Note). ns ++ complete_by (state_of c.args.parts.now) ns) noted in
+    let marks = ap marks_in (c.deref.ensures.value ∙ all) ∙ same_marks_in (state_of parts) (notes_in reply) in
+    let told = c.record_hints.ensures.state ∙ ap (λ (hints : List Hint). with_hints (state_of parts) (option_to_list c.args.proof ++ hints)) marks in
+    record {
+      sent = follows.sent;
+      follows = subst (λ (s : EngineState). FollowsUp g.H.NodeHash.digest s c.args.index follows.sent (state_of c.follow_up.new.parts)) told follows.follows;
+      send = λ peer here.
           let read = get_mapped (peer_of parts.book) parts.peers.items c.args.index (get_read parts.peers.items c.args.index c.index.result.now c.requires.peer.there c.index.ensures) in
           let key : peer.key ≡ c.index.result.now.key = ap (λ (p : PeerState). p.key) (some_is (sym here ∙ read)) in
           let sent : c.put_reply.new.send.items ≡ sent_by peer reply =
-          c.put_reply.ensures.sent peer key ∙ ap (λ (ss : List Sent). ss ++ sent_by peer reply) room.nothing_sent in
-          let told = subst (λ (ns : List Note). TellMarks old (state_of parts) ns) (sym (c.as_slice.ensures.value ∙ noted)) marks in
-          let again = subst (λ (ns : List Note). TellMarks old (state_of parts) ns) (sym noted) marks in
-          output_is
-          (follows.behind ∙ ap (λ (ss : List Sent). ss ++ follows.sent) (c.announce_pieces.ensures.sent old told
-          ∙ ap (λ (ss : List Sent). ss ++ haves old (state_of parts)) sent))
-          (c.note_complete_files.ensures.noted old again ∙ ap (λ (ns : List Note). ns ++ map (λ file. Complete file) (new_complete_files old (state_of parts))) noted),
-    )
+          c.put_reply.ensures.sent peer key ∙ ap (λ (ss : List Sent). ss ++ sent_by peer reply) room.2.nothing_sent in
+          follows.behind ∙ ap (λ (ss : List Sent). ss ++ follows.sent) (c.announce_pieces.ensures.sent
+          ∙ ap (λ (ns : List Note). c.put_reply.new.send.items ++ haves_by (state_of parts) ns) (c.as_slice.ensures.value ∙ noted)
+          ∙ ap (λ (ss : List Sent). ss ++ haves_by (state_of parts) (notes_in reply)) sent);
+      close = refl;
+      notes = all;
+    }

@@ -1,18 +1,12 @@
 use Rattle.std.specs.Prelude.{Contains}
-use Rattle.std.proofs.Common.{◌≡◌, ◌++◌, ◌+◌, ◌*◌, ◌≤◌, List, map, length, get_or, refl, sym, ap, ◌∙◌, subst, arith, flat_map}
+use Rattle.std.proofs.Common.{◌≡◌, ◌+◌, ◌*◌, ◌≤◌, length, get_or, refl, sym, ap, ◌∙◌, subst, arith}
 use Rattle.std.proofs.Math.Nat.{add-mul, mul-le-mul_right}
-use Rattle.bt_wire.specs.declared.message.Message.TheVariants.{Have}
-use Rattle.bt_meta.specs.Files.{File}
-use Rattle.bt_meta.specs.Torrent.{IsLaidOut}
-use Rattle.bt_tree.specs.TreeShape.{IsPieceLength}
 use Rattle.bt_machine.specs.declared.answer.Note.{Note}
 use Rattle.bt_machine.specs.declared.answer.Note.TheVariants.{Marked}
-use Rattle.bt_machine.specs.Blocks.{is_whole}
-use Rattle.bt_machine.specs.Output.{sent_to}
 use Rattle.bt_engine_state.specs.Parts.{state_of}
 use Rattle.bt_machine.proofs.Pairs.{contains_at}
-use Rattle.bt_engine.specs.NewsSteps.{marked_piece, unless_last}
-use Rattle.bt_engine.proofs.NewWholes.{has_block, piece_inside, whole_news}
+use Rattle.bt_engine.specs.NewsSteps.{marked_piece, unless_last, haves_of}
+use Rattle.bt_engine.proofs.NewWholes.{has_block, piece_inside}
 use Rattle.bt_engine.proofs.Announcements.{unless_some, skipped, taken, finished}
 use Rattle.bt_engine.proofs.news.announce_pieces.Goals as goal
 
@@ -31,8 +25,7 @@ loop-note-preserved-in_default g c =
     let n = length c.args.parts.now.peers.items in
     let so_far = c.loop-note.invariant in
     let more : (c.loop-note.note-index + 1) * n ≡ c.loop-note.note-index * n + 1 * n = add-mul c.loop-note.note-index 1 n in (
-      skipped (is_whole (state_of c.args.parts.now)) (λ piece. map (λ p. sent_to p (Have piece)) (state_of c.args.parts.now).peers)
-          (marked_piece c.args.parts.now.torrent) c.loop-note.last c.args.notes.now c.loop-note.note-index blank c.loop-note.send.items _ c.loop-note-test.true
+      skipped (haves_of (state_of c.args.parts.now)) (marked_piece c.args.parts.now.torrent) c.loop-note.last c.args.notes.now c.loop-note.note-index blank c.loop-note.send.items _ c.loop-note-test.true
           (ap (λ o. unless_last o c.loop-note.last) (sym c.marked_piece.ensures) ∙ sym c.unless_last.ensures ∙ c.in_default.is) so_far.0,
       omega (arith, more, so_far.1),
       so_far.2,
@@ -40,10 +33,8 @@ loop-note-preserved-in_default g c =
 
 pub announce_piece-requires-clause-inside : goal.announce_piece-requires-clause-inside
 announce_piece-requires-clause-inside g c =
-    let size : IsPieceLength c.args.parts.now.torrent.piece_length = subst (λ n. IsPieceLength n) c.piece_length.ensures.said c.piece_length.ensures.lawful in
-    let lay : IsLaidOut c.args.parts.now.torrent.piece_length c.args.parts.now.torrent.files =
-    subst (λ (fs : List File). IsLaidOut c.args.parts.now.torrent.piece_length fs) c.files.ensures.said c.files.ensures.laid_out in
-    piece_inside c.requires.told.1 c.requires.sound.shaped size lay (get_or c.args.notes.now c.loop-note.note-index blank) c.in-Some.piece
+    piece_inside c.requires.told.1 c.requires.sound.shaped c.keeps_laws.ensures.lawful
+    (get_or c.args.notes.now c.loop-note.note-index blank) c.in-Some.piece
     (contains_at c.args.notes.now c.loop-note.note-index blank c.loop-note-test.true)
     (sym c.marked_piece.ensures ∙ unless_some c.marked_piece.result c.loop-note.last (sym c.unless_last.ensures ∙ c.in-Some.is))
 
@@ -62,8 +53,7 @@ loop-note-preserved g c =
     let n = length c.args.parts.now.peers.items in
     let so_far = c.loop-note.invariant in
     let more : (c.loop-note.note-index + 1) * n ≡ c.loop-note.note-index * n + 1 * n = add-mul c.loop-note.note-index 1 n in (
-      taken (is_whole (state_of c.args.parts.now)) (λ piece. map (λ p. sent_to p (Have piece)) (state_of c.args.parts.now).peers)
-          (marked_piece c.args.parts.now.torrent) c.loop-note.last c.args.notes.now c.loop-note.note-index blank c.loop-note.send.items _ c.loop-note-test.true
+      taken (haves_of (state_of c.args.parts.now)) (marked_piece c.args.parts.now.torrent) c.loop-note.last c.args.notes.now c.loop-note.note-index blank c.loop-note.send.items _ c.loop-note-test.true
           c.announce_piece.new.send.items c.in-Some.piece
           (ap (λ o. unless_last o c.loop-note.last) (sym c.marked_piece.ensures) ∙ sym c.unless_last.ensures ∙ c.in-Some.is) c.announce_piece.ensures.sent so_far.0,
       omega (arith, more, so_far.1, c.announce_piece.ensures.few),
@@ -71,14 +61,9 @@ loop-note-preserved g c =
     )
 
 pub returns-clause-sent : goal.returns-clause-sent
-returns-clause-sent g c = λ old told_so.
-    let s = state_of c.args.parts.now in
-    let size : IsPieceLength c.args.parts.now.torrent.piece_length = subst (λ n. IsPieceLength n) c.piece_length.ensures.said c.piece_length.ensures.lawful in
-    let lay : IsLaidOut c.args.parts.now.torrent.piece_length c.args.parts.now.torrent.files =
-    subst (λ (fs : List File). IsLaidOut c.args.parts.now.torrent.piece_length fs) c.files.ensures.said c.files.ensures.laid_out in
-    finished (is_whole s) (λ piece. map (λ p. sent_to p (Have piece)) s.peers)
-    (marked_piece c.args.parts.now.torrent) c.loop-note.last c.args.notes.now c.loop-note.note-index c.loop-note.send.items _ c.loop-note-test.false c.loop-note.invariant.0
-    ∙ ap (λ ks. c.args.send.now.items ++ flat_map (λ piece. map (λ p. sent_to p (Have piece)) s.peers) ks) (sym (whole_news told_so c.requires.sound.shaped size lay c.whole_pieces_are_marked.ensures.blocks))
+returns-clause-sent g c =
+    finished (haves_of (state_of c.args.parts.now)) (marked_piece c.args.parts.now.torrent) c.loop-note.last c.args.notes.now c.loop-note.note-index
+    c.loop-note.send.items _ c.loop-note-test.false c.loop-note.invariant.0
 
 pub returns-clause-few : goal.returns-clause-few
 returns-clause-few g c =

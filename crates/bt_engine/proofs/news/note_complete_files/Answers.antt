@@ -1,12 +1,8 @@
-use Rattle.std.proofs.Common.{[], ◌∷◌, ◌++◌, ◌<◌, ◌≤◌, List, length, refl, sym, ap, ◌∙◌, arith, flat_map}
-use Rattle.bt_machine.specs.declared.answer.Note.{Note}
-use Rattle.bt_machine.specs.declared.answer.Note.TheVariants.{Complete}
-use Rattle.bt_machine.specs.Blocks.{is_complete}
+use Rattle.std.proofs.Common.{[], ◌<◌, ◌≤◌, length, refl, sym, ap, ◌∙◌, arith}
 use Rattle.bt_engine_state.specs.Parts.{state_of}
 use Rattle.std.proofs.lemmas.List.{append-nil}
 use Rattle.bt_engine.specs.NewsSteps.{marked_file, unless_last, notes_if_complete}
-use Rattle.bt_engine.proofs.NewWholes.{complete_news}
-use Rattle.bt_engine.proofs.Announcements.{skipped, taken, finished, each_one, begins_then, begins_long, begins_at}
+use Rattle.bt_engine.proofs.Announcements.{skipped, taken, finished, begins_then, begins_long, begins_at}
 use Rattle.bt_engine.proofs.news.note_complete_files.Goals as goal
 
 pub loop-index-init : goal.loop-index-init
@@ -23,7 +19,7 @@ loop-index-preserved-in_default g c =
     let so_far = c.loop-index.invariant in
     let lt : c.loop-index.index < length c.args.notes.now.items = (let t = c.loop-index-test.true in omega (arith, t, c.len-index-end.ensures, c.args.notes.now.ok.0)) in
     let read = c.index.ensures ∙ begins_at c.loop-index.index c.index.result.now so_far.1 lt in (
-      skipped (is_complete (state_of c.args.parts.now)) (λ file. Complete file ∷ []) marked_file c.loop-index.last c.args.notes.now.items c.loop-index.index c.index.result.now
+      skipped (notes_if_complete (state_of c.args.parts.now)) marked_file c.loop-index.last c.args.notes.now.items c.loop-index.index c.index.result.now
           c.loop-index.notes.items _ lt
           (ap (λ n. unless_last (marked_file n) c.loop-index.last) (sym read) ∙ ap (λ o. unless_last o c.loop-index.last) (sym c.marked_file.ensures)
           ∙ sym c.unless_last.ensures ∙ c.in_default.is) so_far.0,
@@ -43,7 +39,7 @@ loop-index-preserved g c =
     let so_far = c.loop-index.invariant in
     let lt : c.loop-index.index < length c.args.notes.now.items = (let t = c.loop-index-test.true in omega (arith, t, c.len-index-end.ensures, c.args.notes.now.ok.0)) in
     let read = c.index.ensures ∙ begins_at c.loop-index.index c.index.result.now so_far.1 lt in (
-      taken (is_complete (state_of c.args.parts.now)) (λ file. Complete file ∷ []) marked_file c.loop-index.last c.args.notes.now.items c.loop-index.index c.index.result.now
+      taken (notes_if_complete (state_of c.args.parts.now)) marked_file c.loop-index.last c.args.notes.now.items c.loop-index.index c.index.result.now
           c.loop-index.notes.items _ lt c.note_if_complete.new.notes.items c.in-Some.file
           (ap (λ n. unless_last (marked_file n) c.loop-index.last) (sym read) ∙ ap (λ o. unless_last o c.loop-index.last) (sym c.marked_file.ensures)
           ∙ sym c.unless_last.ensures ∙ c.in-Some.is) c.note_if_complete.ensures.noted so_far.0,
@@ -54,10 +50,8 @@ loop-index-preserved g c =
 
 pub returns : goal.returns
 returns g c = record {
-  noted = λ old told_so.
+  noted =
       let past : length c.args.notes.now.items ≤ c.loop-index.index = (let t = c.loop-index-test.false in omega (arith, t, c.len-index-end.ensures, c.args.notes.now.ok.0)) in
-      finished (is_complete (state_of c.args.parts.now)) (λ file. Complete file ∷ []) marked_file c.loop-index.last c.args.notes.now.items c.loop-index.index
-      c.loop-index.notes.items _ past c.loop-index.invariant.0
-      ∙ ap (λ (ns : List Note). c.args.notes.now.items ++ ns)
-      (ap (λ ks. flat_map (λ file. Complete file ∷ []) ks) (sym (complete_news told_so)) ∙ each_one _);
+      finished (notes_if_complete (state_of c.args.parts.now)) marked_file c.loop-index.last c.args.notes.now.items c.loop-index.index
+      c.loop-index.notes.items _ past c.loop-index.invariant.0;
 }

@@ -15,7 +15,7 @@ use Rattle.bt_engine.proofs.next.next.Goals as goal
 pub returns-in_default-clause-step : goal.returns-in_default-clause-step
 returns-in_default-clause-step g c = (
   [],
-  no_calls g.D.Disk.conduct g.H.NodeHash.digest c.args.parts.now c.args.parts.now refl,
+  no_calls g.D.Disk.conduct c.args.parts.now c.args.parts.now refl,
   no_peer (no_peer_of c.args.parts.now c.args.key c.in_default.ensures.none) refl refl refl,
 )
 
@@ -23,7 +23,7 @@ pub returns-in-Ok-None-clause-step : goal.returns-in-Ok-None-clause-step
 returns-in-Ok-None-clause-step g c =
     let found = rw c.in-Ok-None.field-0-is at c.in-Ok-None.ensures.found in (
       [],
-      no_calls g.D.Disk.conduct g.H.NodeHash.digest c.args.parts.now c.next_event.new.parts c.next_event.ensures.rest.devices,
+      no_calls g.D.Disk.conduct c.args.parts.now c.next_event.new.parts c.next_event.ensures.rest.devices,
       waits_so (peer_at c.args.parts.now c.in-Some.ensures.some) g.H.NodeHash.digest (state_of c.next_event.new.parts) found refl,
     )
 
@@ -102,7 +102,7 @@ returns-in-Ok-Some-clause-step g c =
     let same = c.in-Err-take_event.ensures.state in
     let devices = c.in-Err-take_event.ensures.devices in (
       [],
-      no_calls g.D.Disk.conduct g.H.NodeHash.digest c.args.parts.now c.drop_peer.new.parts
+      no_calls g.D.Disk.conduct c.args.parts.now c.drop_peer.new.parts
           (c.drop_peer.ensures.rest.devices ∙ devices ∙ c.next_event.ensures.rest.devices),
       drops_event (peer_at c.args.parts.now c.in-Some.ensures.some) g.H.NodeHash.digest (state_of c.drop_peer.new.parts) found
           (c.drop_peer.ensures.gone ∙ ap (λ (s : EngineState). without_peer c.in-Some.index s) same),
@@ -112,7 +112,7 @@ pub returns-in-OutOfMemory-clause-step : goal.returns-in-OutOfMemory-clause-step
 returns-in-OutOfMemory-clause-step g c =
     let refused = rw c.in-OutOfMemory.is at c.in-Err.ensures.refused in (
       [],
-      no_calls g.D.Disk.conduct g.H.NodeHash.digest c.args.parts.now c.drop_peer-in-OutOfMemory.new.parts
+      no_calls g.D.Disk.conduct c.args.parts.now c.drop_peer-in-OutOfMemory.new.parts
           (c.drop_peer-in-OutOfMemory.ensures.rest.devices ∙ c.next_event.ensures.rest.devices),
       drops_unread (peer_at c.args.parts.now c.in-Some.ensures.some) g.H.NodeHash.digest (state_of c.drop_peer-in-OutOfMemory.new.parts) refused
           c.drop_peer-in-OutOfMemory.ensures.gone,
@@ -135,7 +135,7 @@ pub returns : goal.returns
 returns g c = record {
   step = (
     [],
-    no_calls g.D.Disk.conduct g.H.NodeHash.digest c.args.parts.now c.close.new.parts
+    no_calls g.D.Disk.conduct c.args.parts.now c.close.new.parts
         (c.close.ensures.rest.devices ∙ c.next_event.ensures.rest.devices),
     faulty_so (peer_at c.args.parts.now c.in-Some.ensures.some) g.H.NodeHash.digest (state_of c.close.new.parts) c.in_default-fault.not-OutOfMemory
         c.requires.orderly c.in-Err.ensures.refused c.close.ensures.is c.close.ensures.gone,

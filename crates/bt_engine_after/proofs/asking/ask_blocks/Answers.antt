@@ -1,5 +1,6 @@
 use Rattle.std.proofs.Common.{inl, inr, refl, ap, sym, ◌∙◌}
 use Rattle.bt_book.specs.Book.{BookState}
+use Rattle.bt_book.proofs.AskedAll.{peers_with_pairs}
 use Rattle.bt_engine_state.proofs.Lists.{get_read}
 use Rattle.bt_engine_state.proofs.Ties.{tied_again}
 use Rattle.bt_engine_after.proofs.OpenBlocks.{shut_asks, asks}
@@ -26,12 +27,13 @@ returns-then-peer-clause-rest g c =
 pub returns-clause-rest : goal.returns-clause-rest
 returns-clause-rest g c =
     let tied = c.requires.tied in
-    let e = c.ask_all-blocks.ensures in
+    let now = c.ask_all-blocks.ensures.now in
+    let same = peers_with_pairs c.index-peer.result.now.key c.args.parts.now.book c.ask_all-blocks.new.self c.ask_all-blocks.result.items now in
     record {
       devices = refl;
       torrent = refl;
       log = refl;
-      tied = tied_again c.args.parts.now _ tied refl refl refl refl refl refl (ap (λ (b : BookState). b.wanted) e.now) (tied.joined ∙ sym e.peers) tied.in_order tied.room;
+      tied = tied_again c.args.parts.now _ tied refl refl refl refl refl refl (ap (λ (b : BookState). b.wanted) now) (tied.joined ∙ sym same) tied.in_order tied.room;
     }
 
 pub returns-clause-asked : goal.returns-clause-asked
@@ -41,5 +43,4 @@ returns-clause-asked g c =
     let here = get_read old.peers.items c.args.index p c.requires.there c.index-peer.ensures in
     let e = c.ask_all-blocks.ensures in
     asks old c.args.index p c.requires.tied c.keeps_laws.ensures here c.requires.shaped c.if-peer.false c.if-not-peer.false
-    (λ b r inside h. h.1) c.ask_all-blocks.result.items c.ask_all-blocks.new.self e.asked e.others e.can e.distinct e.held
-    (c.keeps_laws-2.ensures.short p.key) e.all
+    (λ b r inside h. h.1) c.ask_all-blocks.result.items c.ask_all-blocks.new.self e.now e.can e.turns e.all c.keeps_laws-2.ensures

@@ -1,4 +1,3 @@
-use Rattle.std.specs.Prelude.{is_some}
 use Rattle.std.proofs.Common.{◌≤◌, List, sym, ◌∙◌, subst, refl}
 use Rattle.std.proofs.lemmas.List.{with_items_is}
 use Rattle.std.specs.Vec.{with_items, with_item}
@@ -10,7 +9,6 @@ use Rattle.bt_engine_state.specs.Parts.{state_of}
 use Rattle.bt_engine_state.specs.declared.parts.Parts.{Parts}
 use Rattle.bt_engine_state.specs.declared.peer.Peer.{Peer}
 use Rattle.bt_engine_messages.specs.HashesSteps.{IsBehind}
-use Rattle.bt_engine_messages.proofs.KeptHints.{can_be_read}
 use Rattle.bt_engine_messages.proofs.Learnings.{if_err_by}
 use Rattle.bt_engine_messages.specs.NoteRooms.{note_count}
 use Rattle.bt_engine_messages.specs.declared.learning.Learnt.{Learnt}
@@ -119,19 +117,6 @@ returns-in-Settled-clause-takes g c =
     (with_items_is old.slots n.slots (c.learn_hashes.auto.slots ∙ c.deref_mut.ensures.len))
     c.resolved_hash_state-peer.result refl c.resolved_hash_state-peer.ensures c.follow_notes.ensures.asked
     c.in_ok-hint.hint c.in-Settled.kept c.in_ok-hint.ensures.value changes.1
-
-pub returns-in-Settled-clause-readable : goal.returns-in-Settled-clause-readable
-returns-in-Settled-clause-readable g c =
-    let d = g.D.Disk in
-    let key = c.args.key.now in
-    let digests = c.args.digests.now in
-    let old = c.args.parts.now in
-    let n = c.learn_hashes.new in
-    let hint = c.in_ok-hint.hint in
-    let changes = changes_of d.conduct g.H.NodeHash.digest key digests hint old c.deref_mut-2.result.now c.deref_mut.result.now
-    c.in_ok-why.field-0 (Settled c.in-Settled.notes c.in-Settled.kept) n.trees n.slots c.deref_mut-2.ensures.value c.deref_mut.ensures.value c.in-Settled.is c.in_ok-why.ensures.changes in
-    let l = changes.0 in
-    can_be_read key digests l.claims (is_some old.log) l.old l.new c.in_ok-hint.ensures.value changes.1
 
 pub returns-in-Settled-clause-few : goal.returns-in-Settled-clause-few
 returns-in-Settled-clause-few g c = λ room enough.

@@ -20,8 +20,8 @@ follow_block-requires g c =
     let puts = puts_of old.slots old.trees a.ensures c.deref_mut.ensures.value c.deref.ensures.value (a.auto.slots ∙ c.deref_mut.ensures.len) in
     has_changed (put_changes old (record old { slots = with_items old.slots a.new.slots }) c.requires.sound.tied c.requires.sound.shaped c.requires.missing puts c.state_after.ensures)
 
-pub effect_of-requires : goal.effect_of-requires
-effect_of-requires g c = c.put_in_slot-answer.ensures.of_missing
+pub outcome_of-requires : goal.outcome_of-requires
+outcome_of-requires g c = c.put_in_slot-answer.ensures.of_missing
 
 pub returns : goal.returns
 returns g c =
@@ -32,7 +32,9 @@ returns g c =
     let f = c.follow_block in
     record {
       puts = puts_block old next c.requires.sound.tied c.requires.sound.shaped c.requires.missing puts c.state_after.ensures f.new.book f.new.counts f.ensures.asked
-          c.asked-others.result.items (record { ascending = c.asked-others.ensures.ascending; exact = c.asked-others.ensures.exact }) c.args.ask c.effect_of.result c.effect_of.ensures;
+          c.asked-others.result.items (record { ascending = c.asked-others.ensures.ascending; exact = c.asked-others.ensures.exact }) c.args.ask c.outcome_of.result c.outcome_of.ensures.effect;
+      no_proof = c.outcome_of.ensures.no_proof;
+      few = c.outcome_of.ensures.few;
       rest = record {
         torrent = refl;
         log = refl;

@@ -26,7 +26,7 @@ follow_block-requires g c =
     let old = c.args.parts.now in
     let next = record old { slots = with_items old.slots c.read_slot.new.slots } in
     let r = stops_of old.slots old.trees (rw c.in-Err-Damaged.field-0-is at c.in-Err-Damaged.ensures.wrong) c.deref_mut.ensures.value c.deref.ensures.value (c.read_slot.auto.slots ∙ c.deref_mut.ensures.len) in
-    has_changed (damage_changes c.requires.looked next r)
+    rw c.in-Err-Damaged.field-0-is (has_changed (damage_changes c.requires.looked next r))
 
 pub returns-in-Ok : goal.returns-in-Ok
 returns-in-Ok g c =
@@ -42,7 +42,8 @@ returns-in-Ok g c =
     let next = record old { slots = with_items old.slots c.read_slot.new.slots } in
     let r = sends_of old.slots old.trees c.in-Ok.ensures.right c.deref_mut.ensures.value c.deref.ensures.value (c.read_slot.auto.slots ∙ c.deref_mut.ensures.len) in
     record {
-      takes = takes_sent look next c.in-Ok.bytes c.saturating_add-peer.result r (omega (arith, c.saturating_add-peer.ensures));
+      takes = rw c.new.ensures (takes_sent look next c.in-Ok.bytes c.saturating_add-peer.result r (omega (arith, c.saturating_add-peer.ensures)));
+      few = omega arith;
       rest = record { torrent = refl; log = refl; tied = tied_sent look next c.in-Ok.bytes c.saturating_add-peer.result r };
       keys = record {
         keys = map_set (λ (p : Peer). p.key) old.peers.items c.args.index (record p { payload = c.saturating_add-peer.result }) there refl;
@@ -58,8 +59,14 @@ returns-in-Err-Damaged g c =
     let r = stops_of old.slots old.trees (rw c.in-Err-Damaged.field-0-is at c.in-Err-Damaged.ensures.wrong) c.deref_mut.ensures.value c.deref.ensures.value (c.read_slot.auto.slots ∙ c.deref_mut.ensures.len) in
     let f = c.follow_block in
     record {
-      takes = takes_damaged look next r f.new.book f.new.counts f.ensures.asked;
-      rest = record { torrent = refl; log = refl; tied = tied_new (damage_changes look next r) f.new.book f.new.counts f.ensures.asked f.ensures.peers f.ensures.followed };
+      takes = rw c.in-Err-Damaged.field-0-is (takes_damaged look next r f.new.book f.new.counts f.ensures.asked);
+      few = omega arith;
+      rest = record {
+        torrent = refl;
+        log = refl;
+        tied = tied_new (damage_changes look next r) f.new.book f.new.counts f.ensures.asked f.ensures.peers
+            (λ s t same before one. f.ensures.followed s t same before (rw c.in-Err-Damaged.field-0-is one));
+      };
       keys = record { keys = refl; len = refl };
     }
 
@@ -70,6 +77,7 @@ returns-in-Err-Device g c =
     let r = stops_of old.slots old.trees (rw c.in-Err-Device.field-0-is at c.in-Err-Device.ensures.wrong) c.deref_mut.ensures.value c.deref.ensures.value (c.read_slot.auto.slots ∙ c.deref_mut.ensures.len) in
     record {
       takes = takes_device c.requires.looked next r;
+      few = omega arith;
       rest = record { torrent = refl; log = refl; tied = tied_device c.requires.looked next r };
       keys = record { keys = refl; len = refl };
     }

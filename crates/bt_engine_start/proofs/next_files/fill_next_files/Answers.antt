@@ -2,7 +2,7 @@ use Rattle.std.proofs.Common.{◌≡◌, ℕ, ◌+◌, ◌-◌, ◌<◌, length,
 use Rattle.std.proofs.lemmas.List.{length-map, length-set}
 use Rattle.bt_meta.specs.Files.{file_of}
 use Rattle.bt_engine_state.specs.Roots.{IsFirstFrom, IsOfRoot}
-use Rattle.bt_engine_start.specs.TreeSteps.{AreFirstsFrom}
+use Rattle.bt_engine_start.specs.RootsSteps.{AreFirstsFrom}
 use Rattle.bt_engine_start.proofs.NextFiles.{firsts_none, AreNextsFrom, nexts_none, nexts_more, nexts_all}
 use Rattle.bt_engine_start.proofs.next_files.fill_next_files.Goals as goal
 

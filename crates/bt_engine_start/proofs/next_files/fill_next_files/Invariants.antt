@@ -1,6 +1,6 @@
 use Rattle.std.proofs.Common.{◌≡◌, length, map}
 use Rattle.bt_meta.specs.Files.{file_of}
-use Rattle.bt_engine_start.specs.TreeSteps.{AreFirstsFrom}
+use Rattle.bt_engine_start.specs.RootsSteps.{AreFirstsFrom}
 use Rattle.bt_engine_start.proofs.NextFiles.{AreNextsFrom}
 use Rattle.bt_engine_start.proofs.next_files.fill_next_files.Given as goal
 

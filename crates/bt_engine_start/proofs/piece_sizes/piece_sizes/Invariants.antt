@@ -1,5 +1,5 @@
 use Rattle.std.proofs.Common.{◌≡◌, length}
-use Rattle.bt_engine_start.specs.Books.{AreRunSizes}
+use Rattle.bt_engine_start.specs.BooksSteps.{AreRunSizes}
 use Rattle.bt_engine_start.proofs.piece_sizes.piece_sizes.Given as goal
 
 abbrev pub invariant-loop-piece : goal.invariant-loop-piece

@@ -5,7 +5,7 @@ use Rattle.bt_meta.specs.Files.{file_of}
 use Rattle.bt_machine.proofs.Lists.{get_some}
 use Rattle.bt_engine_state.specs.Ties.{root_and_length_of}
 use Rattle.bt_engine_state.specs.declared.slot.Slot.{Slot}
-use Rattle.bt_engine_start.specs.TreeSteps.{AreBareSlotsSoFar, roots_and_lengths}
+use Rattle.bt_engine_start.specs.RootsSteps.{AreBareSlotsSoFar, roots_and_lengths}
 use Rattle.bt_engine_start.proofs.RootTrees.{extends_mapped, roots_apart, slot_pushed}
 use Rattle.bt_engine_start.proofs.roots.bare_slots.Goals as goal
 

@@ -1,6 +1,6 @@
 use Rattle.std.proofs.Common.{◌≡◌, ◌≤◌, length, map}
 use Rattle.bt_meta.specs.Files.{file_of}
-use Rattle.bt_engine_start.specs.TreeSteps.{AreByRoot, AreBareSlotsSoFar, roots_and_lengths}
+use Rattle.bt_engine_start.specs.RootsSteps.{AreByRoot, AreBareSlotsSoFar, roots_and_lengths}
 use Rattle.bt_engine_start.proofs.roots.bare_slots.Given as goal
 
 abbrev pub invariant-loop-index : goal.invariant-loop-index

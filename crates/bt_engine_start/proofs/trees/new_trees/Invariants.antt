@@ -1,5 +1,5 @@
 use Rattle.std.proofs.Common.{◌≡◌, length}
-use Rattle.bt_engine_start.specs.Trees.{AreTreesSoFar}
+use Rattle.bt_engine_start.specs.TreesSteps.{AreTreesSoFar}
 use Rattle.bt_engine_start.proofs.trees.new_trees.Given as goal
 
 abbrev pub invariant-loop-number : goal.invariant-loop-number
