@@ -4,7 +4,7 @@ use Rattle.std.specs.Int.{w32, to_be_bytes}
 use Rattle.std.proofs.lemmas.List.{append_assoc, append-nil, take_at, drop_at, take-append-drop, take-append-le}
 use Rattle.std.proofs.lemmas.Bool.{cases_lt}
 use Rattle.bt_tree.specs.Limits.{full_block_length}
-use Rattle.bt_wire.specs.Frames.{IsFrame, BeginsFrame}
+use Rattle.bt_wire.specs.Frames.{IsFrame}
 use Rattle.bt_wire.proofs.SameFrames.{same_number}
 use Rattle.bt_wire.proofs.FrameLengths.{begins_frame}
 use Rattle.bt_connection.specs.Flow.{IsOther, Waits}
@@ -55,10 +55,6 @@ not_yet bytes more frame rest missing t few is same =
     let one = same_number t.field (length body) [] [] t.number limit front in
     let size = t.whole in
     omega (arith, one, size, few, ap length whole, length-append bytes more, length-append (to_be_bytes w32 (length body)) (body ++ rest), length-append body rest)
-
-pub other_front : (bytes : List ℕ) (missing n : ℕ) → IsOther bytes missing → BeginsFrame bytes n → ⊥
-other_front bytes missing n t b =
-    not_yet bytes [] (take n bytes) (drop n bytes) missing t t.some b.frame (append-nil bytes ∙ sym (take-append-drop n bytes))
 
 -- ---- how many bytes are missing
 
@@ -113,6 +109,3 @@ ends_with_frame unread came missing m few n b =
           let one : k.0 ≡ length body = same_number k.0 (length body) [] [] t.number (omega (arith, limit)) front in
           omega (arith, one, whole, few, inside, size, length-append unread came)
     ]
-
-pub waits_none : Waits []
-waits_none = record { no_frame = λ frame rest is same. omega (arith, frame_long frame is, ap length same ∙ length-append frame rest); kind = inl (omega arith) }

@@ -8,13 +8,13 @@ use Rattle.bt_wire.specs.Event.{IsSent}
 use Rattle.bt_wire.specs.Law.{StreamsHaveOneReading}
 use Rattle.bt_wire.specs.declared.message.Ask.{Ask}
 use Rattle.bt_wire.specs.declared.message.Message.TheVariants.{Request, Piece}
-use Rattle.bt_connection.specs.ShortBlocks.{ask_of, padded}
+use Rattle.bt_connection.specs.ShortBlocks.{padded}
 use Rattle.bt_connection.specs.Padding.{Memory, with_asked, without, filled, request, exact, piece, other}
 use Rattle.bt_connection.specs.PaddingSteps.{IsFirstAt}
 use Rattle.bt_connection.specs.Padded.{frame_room_length}
 use Rattle.bt_connection.specs.Translation.{Gives}
 use Rattle.bt_connection.specs.declared.translation.Side.TheVariants.{Peer, Engine}
-use Rattle.bt_connection.proofs.MessageParts.{ask_in, answer_range, is_there, is_taken}
+use Rattle.bt_connection.proofs.MessageParts.{ask_in, is_there, is_taken}
 use Rattle.bt_connection.proofs.Streams.{one_message}
 
 -- with another length in its place a request is the one of that length
@@ -72,24 +72,6 @@ module _ (law : StreamsHaveOneReading) (blocks : List Ask) (memory : Memory) (fr
     );
     bytes = λ none. absurd (none (Request ask) sent);
     memory = λ none. absurd (none (Request ask) sent);
-  }
-
-  -- a piece that answers no remembered request for a short block
-  pub piece_passes : (ask : Ask) (block : List ℕ) → IsSent (Piece ask.piece ask.begin block) frame → length block ≡ ask.length
-      → (Contains memory ask → ¬ Contains blocks ask) → Gives blocks Engine memory frame frame memory
-  piece_passes ask block sent whole unfit = record {
-    message = λ m is. (
-      m,
-      other
-          (λ asked bytes answers.
-          let same = one_message law (Piece ask.piece ask.begin block) m frame sent is ∙ answers.message in
-          let range : ask_of ask.piece ask.begin (length block) ≡ asked = answer_range ask.piece ask.begin block bytes asked same answers.whole in
-          let one : asked ≡ ask = sym range ∙ ap (λ n. ask_of ask.piece ask.begin n) whole in
-          unfit (subst (λ (a : Ask). Contains memory a) one answers.remembered) (subst (λ (a : Ask). Contains blocks a) one answers.short)) refl refl,
-      is.spelled,
-    );
-    bytes = λ none. refl;
-    memory = λ none. refl;
   }
 
   -- one that does

@@ -1,5 +1,5 @@
 -- What is read of a reader that reads ahead, as bytes that are known.
-use Rattle.std.proofs.Common.{◌≡◌, ◌<◌, ℕ, Bool, true, false, eq-zero-or-pos, ⊎_elim, List, [], ◌++◌, take, length, Option, None, Some, sym, ◌∙◌, ap, subst, arith, append_assoc}
+use Rattle.std.proofs.Common.{◌≡◌, ◌<◌, ℕ, Bool, true, false, eq-zero-or-pos, ⊎_elim, List, [], ◌++◌, take, Option, None, Some, sym, ◌∙◌, ap, subst, arith, append_assoc}
 use Rattle.std.proofs.lemmas.Bool.{false≢true}
 use Rattle.std.proofs.KnownBytes.{Consumes-kept}
 use Rattle.bt_connection.specs.ReadAheadSteps.{KeepsAll}
@@ -56,25 +56,6 @@ module _ {R : Type 0} (remaining : R → Option (List ℕ)) where
         let rest : filled.waiting ≡ new.waiting = gives.first ∙ ap (λ (n : ℕ). take n buffer ++ new.waiting) none in
         (subst (λ (i : R). IsAtEnd (remaining i)) (sym inner) at_end.0, sym rest ∙ at_end.1);
   }
-
-  pub read_consumes : (old new : ReaderState R) (count : ℕ) (buffer : List ℕ) → IsRead remaining old count buffer new
-      → Consumes (reader_remaining remaining old) (reader_remaining remaining new) (take count buffer)
-      × (count ≡ 0 → 0 < length buffer → IsAtEnd (reader_remaining remaining new))
-  read_consumes old new count buffer read =
-      let filled = read.filled in
-      let inner : new.inner ≡ filled.inner = ap (λ (s : ReaderState R). s.inner) read.gives.others in
-      let lost = subst (λ (i : R). Consumes (remaining old.inner) (remaining i) read.fills.came) (sym inner) read.fills.takes.lost in (
-        given_of (remaining old.inner) (remaining new.inner) old.waiting read.fills.came (take count buffer) new.waiting lost
-            (sym read.fills.takes.waits ∙ read.gives.first),
-        λ none room.
-            let at_end = read.ended none room in
-            end_of (remaining new.inner) new.waiting at_end.1 at_end.0,
-      )
-
-  pub nothing_lost : (old new : ReaderState R) → LosesNothing remaining old new
-      → Keeps (reader_remaining remaining old) (reader_remaining remaining new)
-  nothing_lost old new loses =
-      kept_of (remaining old.inner) (remaining new.inner) old.waiting loses.came new.waiting loses.takes.lost loses.takes.waits
 
   -- until something may be given, or to the end, none of what is to come is lost
   pub filled_keeps : (old filled : ReaderState R) → IsFilled remaining old filled

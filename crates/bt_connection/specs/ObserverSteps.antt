@@ -1,5 +1,5 @@
 -- What is told of the payload of a piece.
-use Rattle.std.specs.Prelude.{◌≡◌, ℕ, ◌-◌, ◌^◌, ◌<◌, ◌≤◌, min, take, drop}
+use Rattle.std.specs.Prelude.{◌≡◌, ◌-◌, ◌^◌, ◌<◌, ◌≤◌, min, take, drop}
 use Rattle.std.specs.Int.{w32, to_be_bytes}
 use Rattle.bt_wire.specs.declared.frames.TheConstants.{PIECE}
 use Rattle.bt_wire.specs.declared.message.Ask.{Ask}
