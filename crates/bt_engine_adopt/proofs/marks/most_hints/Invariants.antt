@@ -1,6 +1,0 @@
-use Rattle.std.proofs.Common.{◌≡◌, take}
-use Rattle.bt_engine_adopt.specs.MarksSteps as steps
-use Rattle.bt_engine_adopt.proofs.marks.most_hints.Given as goal
-
-abbrev pub invariant-loop-run : goal.invariant-loop-run
-invariant-loop-run l = l.hints ≡ steps.most_hints (take l.run-index l.runs)

@@ -1,7 +1,0 @@
-use Rattle.std.proofs.Common.{drop}
-use Rattle.bt_engine_recall.specs.Runs.{marks_of}
-use Rattle.bt_engine_recall.proofs.FileRecallings.{RecallsTo}
-use Rattle.bt_engine_recall.proofs.marks.recall_marks.Given as goal
-
-abbrev pub invariant-loop-run : goal.invariant-loop-run
-invariant-loop-run g l = RecallsTo g.H.NodeHash.digest l.trees (marks_of l.runs) (marks_of (drop l.run-index l.runs)) l.fn.slots l.slots

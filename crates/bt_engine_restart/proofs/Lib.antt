@@ -1,3 +1,0 @@
-pub mod LogSteps
-pub mod Logs
-pub mod Restarts
