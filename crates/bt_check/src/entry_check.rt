@@ -72,7 +72,8 @@ pub fn check_empty<D: Disk + Drop>(disk: D) -> EntryCheck<D>
 /// Checks the device of a file by what its tree knows; the tree learns the leaves of pieces that are right.
 ///
 /// The device is asked for its length, and then each block is read, in turn, also after a call that failed. The blocks
-/// of a piece are marked where each was read whole and the piece has its digest. Errors: out of memory.
+/// of a piece are marked where each was read whole and the piece has its digest; where the tree knows leaves already,
+/// by an earlier file, each block is marked by its own. Errors: out of memory.
 pub fn check_tree<D: Disk + Drop>(
     alloc: Global,
     disk: D,

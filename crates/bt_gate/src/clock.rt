@@ -10,7 +10,8 @@ use bt_sockets::WORK_SECONDS;
 use std::time::{Duration, Instant};
 
 /// The clock of a gate. All goes by it that counts for a peer: the time for which sockets were waited for, and work that
-/// took less than `WORK_SECONDS`. While longer work is done, as a flush, or while this program is stopped, it stands still.
+/// took less than `WORK_SECONDS`. While longer work is done, as a flush, or while this program is stopped at it, it stands
+/// still; a stop while sockets are waited for counts as waiting does.
 #[derive(Clone, Copy)]
 pub(crate) struct GateClock {
     /// When the system's clock was looked at last,

@@ -7,8 +7,8 @@ use std::io::{self, Write};
 use std::process::{Child, Command, Processes, Stdio};
 use std::time::{Clock, Duration};
 
-/// A runtime whose calls are those of another. Of each that can fail it is noted on a console why it did, or that it
-/// did not.
+/// A runtime whose calls are those of another. Of each call on files, processes and the network it is noted on a
+/// console why it failed, or that it did not.
 #[derive_where(Clone, Copy)]
 pub struct Host<'a, R, C, W> {
     pub rt: &'a R,

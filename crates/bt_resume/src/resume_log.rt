@@ -175,7 +175,7 @@ impl<D: Disk + Drop> ResumeLog<D> {
         }
     }
 
-    /// Appends a proof, by a buffer that has room for at most twice as many digests.
+    /// Appends a proof, by the least of eight buffers that has room for it.
     fn append_proof(&mut self, key: &HashKey, digests: &Digests) -> Result<(), AppendError>
         requires { CanBeRead (Hint.Proof key.now digests.now) }
         ensures { IsAppended D.conduct (Hint.Proof key.now digests.now) self.old result self.new }

@@ -18,7 +18,7 @@ use std::marker::Model;
 /// The blocks of one file on a device.
 ///
 /// The file has at least one byte. Block i lies at byte 16,384 i of the device. Each call that takes a tree
-/// takes that of the file, which has the same geometry; only `create` and `adopt` take memory.
+/// takes that of the file, which has the same geometry; only `create`, `adopt` and `adopt_groups` take memory.
 #[derive(Drop)]
 pub struct FileStore<D: Disk + Drop, H: NodeHash> {
     pub(crate) alloc: Global,

@@ -71,8 +71,8 @@ fn is_taken<G: Gate>(members: &[Member<G::R, G::W>], place: usize) -> bool {
     false
 }
 
-/// A connection that waits joins the others, and is greeted: whether one did. Where there is no memory for
-/// it, or the engine refuses it, it is closed, and all is as it was.
+/// A connection that waits joins the others, and is greeted: whether one did. Where there is no memory for one,
+/// none is taken. One that the engine refuses is closed, and the gate is told.
 fn join<D: Disk + Drop, H: NodeHash, G: Gate>(
     engine: &mut Engine<D, H>,
     gate: &mut G,

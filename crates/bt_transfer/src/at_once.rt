@@ -22,8 +22,8 @@ use std::time::Clock;
 /// How many connections there is room for at a time: as many as an engine takes.
 pub(crate) const PLACES: usize = 64;
 
-/// Serves `count` connections, up to 64 at once, and writes how each ended as it goes. The engine is flushed after
-/// each `flush_every` turns of all together, whenever nobody is there any more, and at the end.
+/// Serves `count` connections, up to 64 at once, and writes how each ended as it goes. The engine is flushed after so
+/// many turns of all together as `flushing` says, whenever nobody is there any more, and at the end.
 pub(crate) fn serve_at_once<D: Disk + Drop, H: NodeHash, N: Net + Clock, P: Watch, W: Write>(
     alloc: Global,
     reception: &Reception<'_, N, P>,
